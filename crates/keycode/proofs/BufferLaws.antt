@@ -127,7 +127,7 @@ module _ {d : List ℕ} {at : ℕ} {all out : List ℕ} {o : ℕ} {left : List �
         same = rw (f, g) (put-put out o xs r ys) ∙ ap (put out o) (sym e) ∙ w .same;
         ends = omega (arith, w .ends);
         room = w .room;
-        long = ap length g ∙ length-put out o xs r ∙ w .long
+        long = ap length g ∙ length-put out o xs r ∙ w .long;
       }
 
   pub lay-end : left ≡ [] → (o ≡ at + length all) × (out ≡ put d at all)

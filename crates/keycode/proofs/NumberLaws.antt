@@ -141,7 +141,7 @@ module _ {v width at : ℕ} {d out : List ℕ} {rest i : ℕ} (w : Digits v widt
         laid =
             rw (w .left, e, be-more (width - i) v, w .laid, f)
             (put-before d (at + (i - 1)) (v / 256 ^ (width - i) % 256) (be (width - i) (v % 256 ^ (width - i))) (omega (arith, w .upto)));
-        long = length-set out (at + (i - 1)) (rest % 256) ∙ w .long
+        long = length-set out (at + (i - 1)) (rest % 256) ∙ w .long;
       }
 
   pub digits-end : v < 256 ^ width → i ≤ 0 → out ≡ put d at (be width v)

@@ -246,7 +246,7 @@ module _ {s : List ℕ} {n i : ℕ} (c : Counting s n i) where
           upto = a .within;
           few = omega (arith, step-on a, c .few);
           well = c .well ∙ rw (a .here) (well-byte b (drop j s));
-          plain = omega (arith, c .plain)
+          plain = omega (arith, c .plain);
         },
       )
 
@@ -341,7 +341,7 @@ found-more left l i e b t g f =
       rest = f .rest;
       here = ap (λ (x : List ℕ). escapeByte b ++ x) (f .here) ∙ sym (append-assoc (escapeByte b) (escapeBody (f .string)) (0 ∷ 0 ∷ f .rest));
       ends = simp length-append (omega (arith, f .ends));
-      few = omega (arith, f .few)
+      few = omega (arith, f .few);
     }
 
 one-more : (left i e : ℕ) (f : ℕ → Scanned) → oneMore left i f ≡ Ended e → (l : ℕ) × (left ≡ suc l) × (f l ≡ Ended e)
