@@ -7,3 +7,6 @@ pub mod StringLaws
 pub mod PrefixLaws
 pub mod DecodeLaws
 pub mod EncodeLaws
+pub mod KeyLaws
+pub mod KeyOrder
+pub mod Unique
