@@ -12,6 +12,12 @@ andThen Less o = Less
 andThen Equal o = o
 andThen Greater o = Greater
 
+-- by an order: the first where it is Less, the second where Equal, the third where Greater
+abbrev pub byOrder : {A : Type 0} → Order → A → A → A → A
+byOrder Less a b c = a
+byOrder Equal a b c = b
+byOrder Greater a b c = c
+
 -- the order of two numbers
 unfoldable pub compareNat : ℕ → ℕ → Order
 compareNat x y = pick (ltb x y) Less (pick (ltb y x) Greater Equal)
