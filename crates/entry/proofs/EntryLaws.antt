@@ -5,17 +5,13 @@ use mathlib.Core.Path.{_≡_, refl, sym, ap, _∙_}
 use mathlib.Core.List.{List, [], _∷_, _++_, append-assoc, append-nil}
 use native.Mathlib.Numerals.{add-one}
 use native.Mathlib.Omega.{arith}
-use lib.ListN.{length, take, drop, getD, set, length-append, drop-of-length-le}
+use lib.ListN.{length, take, drop, getD, set, length-append}
 use lib.Seq.{drop-cons, take-at, drop-at, length-take-le}
 use Rattle.keycode.specs.Limits.{maxLog}
-use Rattle.keycode.specs.Number.{be, num}
+use Rattle.keycode.specs.Number.{be}
 use Rattle.keycode.specs.Buffer.{put}
 use Rattle.keycode.proofs.NumberLaws.{length-be, num-be}
 use Rattle.keycode.proofs.BufferLaws.{Laying, lay-more, lay-room, set-put, put-put}
-use Rattle.entry.specs.declared.length.Len.{Len}
-use Rattle.entry.specs.declared.length.Len.the-variants.{Bytes, Gone}
-use Rattle.entry.specs.declared.read.Read.{Read}
-use Rattle.entry.specs.declared.read.Read.the-variants.{Set, Del}
 use Rattle.entry.specs.Length.{lengthOf}
 use Rattle.entry.specs.Entry.{Entry, set as setEntry, del as delEntry, entryKey, entryValue, entryBits, bytesOf, sizeOf}
 use Rattle.entry.specs.Reading.{wordAt, headed, sizeRead, headAt, entryAt, readOf}
@@ -73,6 +69,13 @@ module _ (d : List ℕ) (at : ℕ) (key : List ℕ) where
   pub del-laid : {d₁ : List ℕ} → d₁ ≡ put d at (be 4 (length key) ++ be 4 (2 ^ 32 - 1) ++ key) → d₁ ≡ put d at (bytesOf (delEntry key))
   unfolding bytesOf
   del-laid e = e ∙ ap (put d at) (sym (append-nil (be 4 (length key) ++ be 4 (2 ^ 32 - 1) ++ key)))
+
+-- the bytes before what was laid stay, so that `entry-again` holds of an append
+pub laid-before : (d : List ℕ) (at : ℕ) (xs : List ℕ) → at ≤ length d → take at (put d at xs) ≡ take at d
+unfolding put
+laid-before d at xs h =
+    let rest = drop (at + length xs) d in
+    rw (append-assoc (take at d) xs rest) (take-at (take at d) (xs ++ rest) at (length-take-le at d h))
 
 -- ---- reading them back
 

@@ -1,6 +1,5 @@
 -- `len_of` tests the sign, and then casts.
 use Rattle.entry.proofs.LengthLaws.{sign-gone, sign-bytes, sign-fits}
-use borrow.Author.Needs.{needs}
 use Rattle.entry.proofs.length.len_of.Statement.{statement}
 use Rattle.entry.proofs.length.len_of.Tie as tie
 
