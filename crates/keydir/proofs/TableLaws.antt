@@ -1,0 +1,134 @@
+-- Laws of a table that gets other slots: what `enter` and `leave` leave, for any words; and on a table of slots and zeros that it is
+-- one again. Assumes nothing.
+use Prim.Native.Nat.{ℕ, zero, suc, _+_, _-_, _*_, _/_, _<_, _≤_, max}
+use mathlib.Core.Path.{_≡_, refl, sym, ap, _∙_}
+use mathlib.Core.List.{List, [], _∷_, _++_}
+use native.Mathlib.Omega.{arith}
+use lib.ListN.{length, drop, replicate, length-append, length-drop, length-replicate, replicate-append-replicate}
+use lib.Seq.{drop-append-add}
+use borrow.Author.Tests.{lt-ltb, le-ltb}
+use Rattle.keydir.specs.declared.slots.Slot.{Slot}
+use Rattle.keydir.specs.declared.place.Found.{Found}
+use Rattle.keydir.specs.declared.place.Found.the-variants.{At, Before}
+use Rattle.keydir.specs.Slots.{slotWords, slotsOf, wordsOf, tableOf, insertAt, replaceAt, removeAt}
+use Rattle.keydir.specs.Place.{Among, All, countOf, putAt, cutAt, entered, laid, Becomes}
+use Rattle.keydir.proofs.SlotLaws.{words-length, words-slots, slots-words, slots-length, insert-length, replace-length, remove-length}
+use Rattle.keydir.proofs.CountLaws.{count-is}
+
+-- ---- as many slots, one more, one fewer
+
+module _ (n : ℕ) (ss : List Slot) (t : List ℕ) where
+  laid-same : length ss ≡ n → wordsOf ss ++ drop (slotWords * n) t ≡ laid n ss t
+  unfolding laid
+  laid-same e =
+      let a : slotWords * (n - length ss) ≡ 0 = omega arith in
+      let b : slotWords * max n (length ss) ≡ slotWords * n = omega arith in
+      rw (a, b)
+
+  laid-more : length ss ≡ n + 1 → wordsOf ss ++ drop (slotWords * n + slotWords) t ≡ laid n ss t
+  unfolding laid
+  laid-more e =
+      let a : slotWords * (n - length ss) ≡ 0 = omega arith in
+      let b : slotWords * max n (length ss) ≡ slotWords * n + slotWords = omega arith in
+      rw (a, b)
+
+  laid-less : length ss + 1 ≡ n → wordsOf ss ++ (0 ∷ 0 ∷ 0 ∷ drop (slotWords * n) t) ≡ laid n ss t
+  unfolding laid
+  laid-less e =
+      let a : slotWords * (n - length ss) ≡ 3 = omega arith in
+      let b : slotWords * max n (length ss) ≡ slotWords * n = omega arith in
+      rw (a, b)
+
+-- ---- what the calls leave
+
+module _ (t : List ℕ) (n : ℕ) (f : Found) (i : ℕ) (room : slotWords * n ≤ length t) (a : Among n f) where
+  long : length (slotsOf n t) ≡ n
+  long = slots-length n t
+
+  pub enter-at : (s : Slot) {y : List ℕ} → f ≡ At i → y ≡ wordsOf (replaceAt i s (slotsOf n t)) ++ drop (slotWords * n) t → Becomes t n (entered t s f (slotsOf n t)) y n
+  unfolding entered
+  enter-at s {y} e q =
+      let h : i < n = rw e at a in
+      let l : length (replaceAt i s (slotsOf n t)) ≡ n = replace-length i s (slotsOf n t) (omega (arith, long)) ∙ long in
+      rw e (record { count = sym l; words = q ∙ laid-same n (replaceAt i s (slotsOf n t)) t l })
+
+  pub enter-full : (s : Slot) → f ≡ Before i → length t / slotWords ≤ n → Becomes t n (entered t s f (slotsOf n t)) t n
+  unfolding entered
+  enter-full s e k =
+      rw (e, long, le-ltb n (length t / slotWords) k) (record { count = sym long; words = sym (words-slots n t room) ∙ laid-same n (slotsOf n t) t long })
+
+  pub enter-new : (s : Slot) {y : List ℕ} → f ≡ Before i → n < length t / slotWords
+      → y ≡ wordsOf (insertAt i s (slotsOf n t)) ++ drop (slotWords * n + slotWords) t → Becomes t n (entered t s f (slotsOf n t)) y (n + 1)
+  unfolding entered
+  enter-new s {y} e k q =
+      let h : i ≤ n = rw e at a in
+      let l : length (insertAt i s (slotsOf n t)) ≡ n + 1 = insert-length i s (slotsOf n t) (omega (arith, long)) ∙ ap (λ (x : ℕ). x + 1) long in
+      rw (e, long, lt-ltb n (length t / slotWords) k) (record { count = sym l; words = q ∙ laid-more n (insertAt i s (slotsOf n t)) t l })
+
+  pub leave-at : {y : List ℕ} → f ≡ At i → y ≡ wordsOf (removeAt i (slotsOf n t)) ++ (0 ∷ 0 ∷ 0 ∷ drop (slotWords * n) t) → Becomes t n (cutAt f (slotsOf n t)) y (n - 1)
+  leave-at {y} e q =
+      let h : i < n = rw e at a in
+      let l : length (removeAt i (slotsOf n t)) ≡ n - 1 = remove-length i (slotsOf n t) (omega (arith, long)) ∙ ap (λ (x : ℕ). x - 1) long in
+      rw e (record { count = sym l; words = q ∙ laid-less n (removeAt i (slotsOf n t)) t (omega arith) })
+
+  pub leave-none : f ≡ Before i → Becomes t n (cutAt f (slotsOf n t)) t n
+  leave-none e = rw e (record { count = sym long; words = sym (words-slots n t room) ∙ laid-same n (slotsOf n t) t long })
+
+-- ---- the table then
+
+module _ (n : ℕ) (ss : List Slot) (t : List ℕ) where
+  pub laid-slots : slotsOf (length ss) (laid n ss t) ≡ ss
+  unfolding laid
+  laid-slots = slots-words ss (replicate (slotWords * (n - length ss)) 0 ++ drop (slotWords * max n (length ss)) t)
+
+  pub laid-length : slotWords * n ≤ length t → slotWords * length ss ≤ length t → length (laid n ss t) ≡ length t
+  unfolding laid
+  laid-length h k = simp (length-append, words-length, length-replicate, length-drop) (omega arith)
+
+-- where there is room, what is put in is in
+module _ (t : List ℕ) (s : Slot) (ss : List Slot) where
+  pub entered-known : (i : ℕ) → entered t s (At i) ss ≡ putAt s (At i) ss
+  unfolding entered
+  entered-known i = refl
+
+  pub entered-new : (i : ℕ) → length ss < length t / slotWords → entered t s (Before i) ss ≡ putAt s (Before i) ss
+  unfolding entered
+  entered-new i h = rw (lt-ltb (length ss) (length t / slotWords) h)
+
+-- ---- tables of slots and zeros
+
+zeros-drop : (k n : ℕ) → drop k (replicate {A = ℕ} n 0) ≡ replicate {A = ℕ} (n - k) 0
+zeros-drop zero n = let e : n ≡ n - 0 = omega arith in ap (λ (x : ℕ). replicate {A = ℕ} x 0) e
+zeros-drop (suc k) zero = let e : 0 ≡ 0 - suc k = omega arith in ap (λ (x : ℕ). replicate {A = ℕ} x 0) e
+zeros-drop (suc k) (suc n) = zeros-drop k n ∙ (let e : n - k ≡ suc n - suc k = omega arith in ap (λ (x : ℕ). replicate {A = ℕ} x 0) e)
+
+pub table-empty : (n : ℕ) → replicate n 0 ≡ tableOf n []
+unfolding tableOf wordsOf
+table-empty n = let e : n ≡ n - 0 = omega arith in ap (λ (k : ℕ). replicate k 0) e
+
+module _ (n : ℕ) (ss : List Slot) where
+  pub table-length : slotWords * length ss ≤ n → length (tableOf n ss) ≡ n
+  unfolding tableOf
+  table-length h = simp (length-append, words-length, length-replicate) (omega arith)
+
+  pub table-slots : slotsOf (length ss) (tableOf n ss) ≡ ss
+  unfolding tableOf
+  table-slots = slots-words ss (replicate (n - slotWords * length ss) 0)
+
+  pub table-count : All (λ (s : Slot). 0 < s .place) ss → countOf (tableOf n ss) ≡ length ss
+  unfolding tableOf
+  table-count a = count-is ss (n - slotWords * length ss) a
+
+pub table-laid : (n : ℕ) (old ss : List Slot) → slotWords * length old ≤ n → slotWords * length ss ≤ n → laid (length old) ss (tableOf n old) ≡ tableOf n ss
+unfolding laid tableOf
+table-laid n old ss h k =
+    let z : List ℕ = replicate (n - slotWords * length old) 0 in
+    let w : length (wordsOf old) ≡ slotWords * length old = words-length old in
+    let m : ℕ = max (length old) (length ss) in
+    let b : ℕ = slotWords * m - slotWords * length old in
+    let e₁ : slotWords * m ≡ length (wordsOf old) + b = omega arith in
+    let e₂ : slotWords * (length old - length ss) + (n - slotWords * length old - b) ≡ n - slotWords * length ss = omega arith in
+    ap (λ (r : List ℕ). wordsOf ss ++ (replicate (slotWords * (length old - length ss)) 0 ++ r))
+    (ap (λ (x : ℕ). drop x (wordsOf old ++ z)) e₁ ∙ drop-append-add (wordsOf old) z b ∙ zeros-drop b (n - slotWords * length old))
+    ∙ ap (λ (r : List ℕ). wordsOf ss ++ r)
+    (replicate-append-replicate (slotWords * (length old - length ss)) (n - slotWords * length old - b) 0 ∙ ap (λ (x : ℕ). replicate x 0) e₂)
