@@ -1,8 +1,9 @@
 -- Laws of a table that gets other slots: what `enter` and `leave` leave, for any words; and on a table of slots and zeros that it is
 -- one again. Assumes nothing.
 use Prim.Native.Nat.{ℕ, zero, suc, _+_, _-_, _*_, _/_, _<_, _≤_, max}
-use mathlib.Core.Path.{_≡_, refl, sym, ap, _∙_}
-use mathlib.Core.List.{List, [], _∷_, _++_}
+use mathlib.Core.Path.{_≡_, sym, ap, _∙_}
+use mathlib.Core.Bool.{true, false}
+use mathlib.Core.List.{List, [], _++_}
 use native.Mathlib.Omega.{arith}
 use lib.ListN.{length, drop, replicate, length-append, length-drop, length-replicate, replicate-append-replicate}
 use lib.Seq.{drop-append-add}
@@ -11,7 +12,7 @@ use Rattle.keydir.specs.declared.slots.Slot.{Slot}
 use Rattle.keydir.specs.declared.place.Found.{Found}
 use Rattle.keydir.specs.declared.place.Found.the-variants.{At, Before}
 use Rattle.keydir.specs.Slots.{slotWords, slotsOf, wordsOf, tableOf, insertAt, replaceAt, removeAt}
-use Rattle.keydir.specs.Place.{Among, All, countOf, putAt, cutAt, entered, laid, Becomes}
+use Rattle.keydir.specs.Place.{Among, All, countOf, putAt, cutAt, roomAt, entered, laid, Becomes}
 use Rattle.keydir.proofs.SlotLaws.{words-length, words-slots, slots-words, slots-length, insert-length, replace-length, remove-length}
 use Rattle.keydir.proofs.CountLaws.{count-is}
 
@@ -32,10 +33,10 @@ module _ (n : ℕ) (ss : List Slot) (t : List ℕ) where
       let b : slotWords * max n (length ss) ≡ slotWords * n + slotWords = omega arith in
       rw (a, b)
 
-  laid-less : length ss + 1 ≡ n → wordsOf ss ++ (0 ∷ 0 ∷ 0 ∷ drop (slotWords * n) t) ≡ laid n ss t
+  laid-less : length ss + 1 ≡ n → wordsOf ss ++ (replicate slotWords 0 ++ drop (slotWords * n) t) ≡ laid n ss t
   unfolding laid
   laid-less e =
-      let a : slotWords * (n - length ss) ≡ 3 = omega arith in
+      let a : slotWords * (n - length ss) ≡ slotWords = omega arith in
       let b : slotWords * max n (length ss) ≡ slotWords * n = omega arith in
       rw (a, b)
 
@@ -65,7 +66,7 @@ module _ (t : List ℕ) (n : ℕ) (f : Found) (i : ℕ) (room : slotWords * n �
       let l : length (insertAt i s (slotsOf n t)) ≡ n + 1 = insert-length i s (slotsOf n t) (omega (arith, long)) ∙ ap (λ (x : ℕ). x + 1) long in
       rw (e, long, lt-ltb n (length t / slotWords) k) (record { count = sym l; words = q ∙ laid-more n (insertAt i s (slotsOf n t)) t l })
 
-  pub leave-at : {y : List ℕ} → f ≡ At i → y ≡ wordsOf (removeAt i (slotsOf n t)) ++ (0 ∷ 0 ∷ 0 ∷ drop (slotWords * n) t) → Becomes t n (cutAt f (slotsOf n t)) y (n - 1)
+  pub leave-at : {y : List ℕ} → f ≡ At i → y ≡ wordsOf (removeAt i (slotsOf n t)) ++ (replicate slotWords 0 ++ drop (slotWords * n) t) → Becomes t n (cutAt f (slotsOf n t)) y (n - 1)
   leave-at {y} e q =
       let h : i < n = rw e at a in
       let l : length (removeAt i (slotsOf n t)) ≡ n - 1 = remove-length i (slotsOf n t) (omega (arith, long)) ∙ ap (λ (x : ℕ). x - 1) long in
@@ -85,15 +86,15 @@ module _ (n : ℕ) (ss : List Slot) (t : List ℕ) where
   unfolding laid
   laid-length h k = simp (length-append, words-length, length-replicate, length-drop) (omega arith)
 
--- where there is room, what is put in is in
-module _ (t : List ℕ) (s : Slot) (ss : List Slot) where
-  pub entered-known : (i : ℕ) → entered t s (At i) ss ≡ putAt s (At i) ss
+-- what is put in is in where there is room, and nothing changes where there is none
+module _ (t : List ℕ) (s : Slot) (f : Found) (ss : List Slot) where
+  pub entered-room : roomAt t f ss ≡ true → entered t s f ss ≡ putAt s f ss
   unfolding entered
-  entered-known i = refl
+  entered-room e = rw e
 
-  pub entered-new : (i : ℕ) → length ss < length t / slotWords → entered t s (Before i) ss ≡ putAt s (Before i) ss
+  pub entered-full : roomAt t f ss ≡ false → entered t s f ss ≡ ss
   unfolding entered
-  entered-new i h = rw (lt-ltb (length ss) (length t / slotWords) h)
+  entered-full e = rw e
 
 -- ---- tables of slots and zeros
 
@@ -119,16 +120,21 @@ module _ (n : ℕ) (ss : List Slot) where
   unfolding tableOf
   table-count a = count-is ss (n - slotWords * length ss) a
 
+-- the zeros behind some words
+zeros-behind : (w : List ℕ) (a n x : ℕ) → length w ≡ a → a ≤ x → drop x (w ++ replicate (n - a) 0) ≡ replicate (n - x) 0
+zeros-behind w a n x e h =
+    let m : x ≡ length w + (x - a) = omega arith in
+    let k : n - a - (x - a) ≡ n - x = omega arith in
+    ap (λ (i : ℕ). drop i (w ++ replicate (n - a) 0)) m ∙ drop-append-add w (replicate (n - a) 0) (x - a) ∙ zeros-drop (x - a) (n - a) ∙ ap (λ (i : ℕ). replicate i 0) k
+
+-- a table of slots and zeros that gets other slots is one of those and zeros
 pub table-laid : (n : ℕ) (old ss : List Slot) → slotWords * length old ≤ n → slotWords * length ss ≤ n → laid (length old) ss (tableOf n old) ≡ tableOf n ss
 unfolding laid tableOf
 table-laid n old ss h k =
-    let z : List ℕ = replicate (n - slotWords * length old) 0 in
-    let w : length (wordsOf old) ≡ slotWords * length old = words-length old in
-    let m : ℕ = max (length old) (length ss) in
-    let b : ℕ = slotWords * m - slotWords * length old in
-    let e₁ : slotWords * m ≡ length (wordsOf old) + b = omega arith in
-    let e₂ : slotWords * (length old - length ss) + (n - slotWords * length old - b) ≡ n - slotWords * length ss = omega arith in
-    ap (λ (r : List ℕ). wordsOf ss ++ (replicate (slotWords * (length old - length ss)) 0 ++ r))
-    (ap (λ (x : ℕ). drop x (wordsOf old ++ z)) e₁ ∙ drop-append-add (wordsOf old) z b ∙ zeros-drop b (n - slotWords * length old))
-    ∙ ap (λ (r : List ℕ). wordsOf ss ++ r)
-    (replicate-append-replicate (slotWords * (length old - length ss)) (n - slotWords * length old - b) 0 ∙ ap (λ (x : ℕ). replicate x 0) e₂)
+    let x : ℕ = slotWords * max (length old) (length ss) in
+    let e : slotWords * (length old - length ss) + (n - x) ≡ n - slotWords * length ss = omega arith in
+    rw (
+      zeros-behind (wordsOf old) (slotWords * length old) n (slotWords * max (length old) (length ss)) (words-length old) (omega arith),
+      replicate-append-replicate {A = ℕ} (slotWords * (length old - length ss)) (n - x) 0,
+      e,
+    )

@@ -1,5 +1,6 @@
 -- `count` halves towards the first free slot.
 use Prim.Native.Nat.{_-_, _/_}
+use mathlib.Core.Path.{refl}
 use lib.ListN.{length}
 use Rattle.keydir.specs.Place.{usedAt}
 use Rattle.keydir.proofs.HalveLaws.{Halving, halving-start, halving-up, halving-down}
@@ -18,10 +19,10 @@ loop-holds : tie.Need-loop-holds Inv-loop μ-loop
 loop-holds c = halving-start (usedAt (c .args .table .now)) (length (c .args .table .now) / 3)
 
 loop-again : tie.Need-loop-again Inv-loop μ-loop
-loop-again c = halving-down (c .before .before .before .loop .inv) (c .before .before .loop-test .taken) (used-free (c .before .before .before .before .args .table .now) _ (c .if1 .taken))
+loop-again c = halving-down (c .before .before .before .loop .inv) (c .before .before .loop-test .taken) (used-free (c .before .before .before .before .args .table .now) _ (c .if1 .taken)) refl
 
 loop-again-2 : tie.Need-loop-again-2 Inv-loop μ-loop
-loop-again-2 c = halving-up (c .before .before .before .loop .inv) (c .before .before .loop-test .taken) (used-some (c .before .before .before .before .args .table .now) _ (c .if1 .left))
+loop-again-2 c = halving-up (c .before .before .before .loop .inv) (c .before .before .loop-test .taken) (used-some (c .before .before .before .before .args .table .now) _ (c .if1 .left)) refl
 
 returns : tie.Need-returns Inv-loop μ-loop
 returns c = count-end (c .before .before .args .table .now) (c .before .loop .inv) (c .loop-test .left)

@@ -20,7 +20,7 @@ loop-holds c = (omega arith, omega arith, refl, copy-none (c .args .table .now) 
 loop-again : tie.Need-loop-again Inv-loop μ-loop
 loop-again c =
     let l = c .before .before .loop in let a = c .before .before .before .args in
-    (omega arith, omega arith, simp length-set (l .inv .2), up-turn (a .table .now) (l .table) (l .j) (a .to) (l .inv .3) (omega arith) (omega arith) (omega arith))
+    (omega arith, omega arith, simp length-set (l .inv .2), up-turn 3 (a .table .now) (l .table) (l .j) (a .to) (l .inv .3) (omega arith) (omega arith) (omega arith))
 
 same-length : tie.Need-same-length Inv-loop μ-loop
 same-length c = c .before .loop .inv .2
