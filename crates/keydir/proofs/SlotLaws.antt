@@ -103,10 +103,12 @@ store-is t at s h =
 
 -- a table of n slots in parts
 module _ (t : List ℕ) (n : ℕ) (room : slotWords * n ≤ length t) where
+  long : length (wordsOf (slotsOf n t)) ≡ slotWords * n
+  long = words-length (slotsOf n t) ∙ ap (λ (k : ℕ). slotWords * k) (slots-length n t)
+
   front : take (slotWords * n) t ≡ wordsOf (slotsOf n t)
   front =
-      let l : length (wordsOf (slotsOf n t)) ≡ slotWords * n = words-length (slotsOf n t) ∙ ap (λ (k : ℕ). slotWords * k) (slots-length n t) in
-      ap (take (slotWords * n)) (sym (words-slots n t room)) ∙ take-at (wordsOf (slotsOf n t)) (drop (slotWords * n) t) (slotWords * n) l
+      ap (take (slotWords * n)) (sym (words-slots n t room)) ∙ take-at (wordsOf (slotsOf n t)) (drop (slotWords * n) t) (slotWords * n) long
 
   -- the words from the i-th slot on
   back : (i : ℕ) → slice (slotWords * i) (slotWords * n) t ≡ wordsOf (drop i (slotsOf n t))
@@ -115,16 +117,14 @@ module _ (t : List ℕ) (n : ℕ) (room : slotWords * n ≤ length t) where
   -- the words before the i-th slot
   fore : (i : ℕ) → i ≤ n → take (slotWords * i) t ≡ wordsOf (take i (slotsOf n t))
   fore i h =
-      let l : length (wordsOf (slotsOf n t)) ≡ slotWords * n = words-length (slotsOf n t) ∙ ap (λ (k : ℕ). slotWords * k) (slots-length n t) in
       ap (take (slotWords * i)) (sym (words-slots n t room))
-      ∙ take-append-le (slotWords * i) (wordsOf (slotsOf n t)) (drop (slotWords * n) t) (omega arith)
+      ∙ take-append-le (slotWords * i) (wordsOf (slotsOf n t)) (drop (slotWords * n) t) (omega (arith, long))
       ∙ words-take i (slotsOf n t)
 
   rest : (i : ℕ) → i ≤ n → drop (slotWords * i) t ≡ wordsOf (drop i (slotsOf n t)) ++ drop (slotWords * n) t
   rest i h =
-      let l : length (wordsOf (slotsOf n t)) ≡ slotWords * n = words-length (slotsOf n t) ∙ ap (λ (k : ℕ). slotWords * k) (slots-length n t) in
       ap (drop (slotWords * i)) (sym (words-slots n t room))
-      ∙ drop-append-le (slotWords * i) (wordsOf (slotsOf n t)) (drop (slotWords * n) t) (omega arith)
+      ∙ drop-append-le (slotWords * i) (wordsOf (slotsOf n t)) (drop (slotWords * n) t) (omega (arith, long))
       ∙ ap (λ (r : List ℕ). r ++ drop (slotWords * n) t) (words-drop i (slotsOf n t))
 
   pub replace-is : (i : ℕ) (s : Slot) → i < n → put t (slotWords * i) (wordsOf (s ∷ [])) ≡ wordsOf (replaceAt i s (slotsOf n t)) ++ drop (slotWords * n) t
