@@ -1,16 +1,15 @@
 -- Laws of the number of slots in use: a turn of the loop that counts, its bound for any words, its meaning on slots and zeros.
 -- Assumes nothing.
 use Prim.Native.Nat.{ℕ, zero, suc, _+_, _-_, _*_, _/_, _<_, _≤_}
-use mathlib.Core.Path.{_≡_, refl, sym, ap, _∙_}
-use mathlib.Core.List.{List, [], _∷_, _++_}
+use mathlib.Core.Path.{_≡_, sym, ap, _∙_}
+use mathlib.Core.List.{List, _++_}
 use native.Mathlib.Omega.{arith}
-use lib.ListN.{length, drop, getD, replicate, length-append, length-replicate, getD-replicate}
+use lib.ListN.{length, getD, replicate, length-append, length-replicate, getD-replicate}
 use lib.Seq.{getD-drop, getD-append-add}
 use borrow.Author.Tests.{eq-eqb, ne-eqb}
 use Rattle.keycode.specs.declared.order.Order.the-variants.{Less, Greater}
 use Rattle.keydir.specs.declared.slots.Slot.{Slot}
-use Rattle.keydir.specs.declared.place.Found.the-variants.{Before}
-use Rattle.keydir.specs.Slots.{slotWords, freeSlot, slotHead, slotAt, slotsOf, wordsOf}
+use Rattle.keydir.specs.Slots.{slotWords, freeSlot, slotHead, slotAt, wordsOf}
 use Rattle.keydir.specs.Place.{All, all-none, all-more, halved, usedAt, indexOf, countOf}
 use Rattle.keydir.proofs.SlotLaws.{words-length, slots-words, slot-at-is}
 use Rattle.keydir.proofs.HalveLaws.{Halving, halving-end, halved-among, among-index, Parted, halved-spot, spot-only, parted-climbs}
@@ -21,11 +20,11 @@ place-is : (t : List ℕ) (i : ℕ) → slotAt t i .place ≡ getD t (slotWords 
 unfolding slotAt slotHead
 place-is t i = getD-drop (slotWords * i) t 0 0 ∙ (let e : slotWords * i + 0 ≡ slotWords * i = omega arith in ap (λ (n : ℕ). getD t n 0) e)
 
-pub used-free : (t : List ℕ) (i : ℕ) → getD t (slotWords * i) 0 ≡ 0 → usedAt t i ≡ Greater
+pub used-free : (t : List ℕ) (i : ℕ) → getD t (slotWords * i) 0 ≡ 0 → Greater ≡ usedAt t i
 unfolding usedAt
 used-free t i e = rw (eq-eqb (slotAt t i .place) 0 (place-is t i ∙ e))
 
-pub used-some : (t : List ℕ) (i : ℕ) → (getD t (slotWords * i) 0 ≡ 0 → ⊥) → usedAt t i ≡ Less
+pub used-some : (t : List ℕ) (i : ℕ) → (getD t (slotWords * i) 0 ≡ 0 → ⊥) → Less ≡ usedAt t i
 unfolding usedAt
 used-some t i f = rw (ne-eqb (slotAt t i .place) 0 (λ e. f (sym (place-is t i) ∙ e)))
 
@@ -63,8 +62,8 @@ module _ (ss : List Slot) (k : ℕ) where
       let t : List ℕ = wordsOf ss ++ replicate k 0 in
       let l : length t ≡ slotWords * length ss + k = simp (length-append, words-length, length-replicate) in
       let p : Parted (usedAt t) (length t / slotWords) (length ss) (length ss) = record {
-        less = λ j q. used-some t j (λ e. let z = all-at a j freeSlot q in let y = in-use j q in omega arith);
-        greater = λ j q r. used-free t j (unused j q (omega arith));
+        less = λ j q. sym (used-some t j (λ e. let z = all-at a j freeSlot q in let y = in-use j q in omega arith));
+        greater = λ j q r. sym (used-free t j (unused j q (omega arith)));
       } in
       ap indexOf (spot-only (usedAt t) (length t / slotWords) (length ss) (halved (usedAt t) 0 (length t / slotWords)) (omega arith) p
       (halved-spot (usedAt t) (length t / slotWords) (parted-climbs (usedAt t) (length t / slotWords) (length ss) p)))

@@ -1,6 +1,6 @@
 -- Laws of halving: one turn of the search, that its answer lies between its ends, and what the answer means where the order climbs.
 -- Nothing outside this file speaks of the number of turns. Assumes nothing.
-use Prim.Native.Nat.{ℕ, zero, suc, _+_, _-_, _*_, _/_, _<_, _≤_}
+use Prim.Native.Nat.{ℕ, zero, suc, _+_, _-_, _<_, _≤_}
 use mathlib.Core.Path.{_≡_, refl, sym, ap, _∙_}
 use mathlib.Core.Logic.{_⊎_, inl, inr}
 use native.Mathlib.Omega.{arith}
@@ -40,7 +40,11 @@ pub halved-turn : (f : ℕ → Order) (low high : ℕ) → low < high
 unfolding halved halve
 halved-turn f low high h =
     enough f (high - low) (suc (high - low)) low high (omega arith) (omega arith)
-    ∙ rw (lt-ltb low high h, enough f (high - low) (high - (middle low high + 1)) (middle low high + 1) high (omega arith) (omega arith), enough f (high - low) (middle low high - low) low (middle low high) (omega arith) (omega arith))
+    ∙ rw (
+      lt-ltb low high h,
+      enough f (high - low) (high - (middle low high + 1)) (middle low high + 1) high (omega arith) (omega arith),
+      enough f (high - low) (middle low high - low) low (middle low high) (omega arith) (omega arith),
+    )
 
 -- ---- a loop that halves
 
@@ -57,19 +61,23 @@ module _ {f : ℕ → Order} {n low high : ℕ} (w : Halving f n low high) where
   pub halving-end : high ≤ low → Before low ≡ halved f 0 n
   halving-end h = sym (halved-end f low high h) ∙ w .same
 
-  module _ (h : low < high) where
-    pub halving-up : f (middle low high) ≡ Less → Halving f n (middle low high + 1) high
-    halving-up e = record { order = omega arith; within = w .within; same = sym (halved-turn f low high h ∙ rw e) ∙ w .same }
+  -- the order in the middle is o
+  module _ (h : low < high) {o : Order} (q : o ≡ f (middle low high)) where
+    turn : byOrder o (halved f (middle low high + 1) high) (At (middle low high)) (halved f low (middle low high)) ≡ halved f 0 n
+    turn = rw q (sym (halved-turn f low high h)) ∙ w .same
 
-    pub halving-at : f (middle low high) ≡ Equal → At (middle low high) ≡ halved f 0 n
-    halving-at e = sym (halved-turn f low high h ∙ rw e) ∙ w .same
+    pub halving-up : o ≡ Less → Halving f n (middle low high + 1) high
+    halving-up e = record { order = omega arith; within = w .within; same = rw e at turn }
 
-    pub halving-down : f (middle low high) ≡ Greater → Halving f n low (middle low high)
-    halving-down e = record { order = omega arith; within = omega (arith, w .within); same = sym (halved-turn f low high h ∙ rw e) ∙ w .same }
+    pub halving-at : o ≡ Equal → At (middle low high) ≡ halved f 0 n
+    halving-at e = rw e at turn
+
+    pub halving-down : o ≡ Greater → Halving f n low (middle low high)
+    halving-down e = record { order = omega arith; within = omega (arith, w .within); same = rw e at turn }
 
 -- ---- the answer lies between the ends
 
-among-order : (n : ℕ) (o : Order) (a b c : Found) → Among n a → Among n b → Among n c → Among n (byOrder o a b c)
+pub among-order : (n : ℕ) (o : Order) (a b c : Found) → Among n a → Among n b → Among n c → Among n (byOrder o a b c)
 among-order n Less a b c x y z = x
 among-order n Equal a b c x y z = y
 among-order n Greater a b c x y z = z

@@ -1,6 +1,6 @@
 -- Laws of the place of a key: its bounds for any slots, and on slots whose keys rise that halving finds the first that is not less,
 -- with lesser keys before it and greater ones behind. Assumes nothing.
-use Prim.Native.Nat.{ℕ, zero, suc, _+_, _-_, _*_, _<_, _≤_}
+use Prim.Native.Nat.{ℕ, zero, suc, _+_, _-_, _<_, _≤_}
 use mathlib.Core.Path.{_≡_, refl, sym, ap, _∙_, subst}
 use mathlib.Core.Logic.{_⊎_, inl, inr}
 use mathlib.Core.List.{List, [], _∷_}
@@ -14,9 +14,9 @@ use Rattle.keydir.specs.declared.slots.Slot.{Slot}
 use Rattle.keydir.specs.declared.place.Found.{Found}
 use Rattle.keydir.specs.declared.place.Found.the-variants.{At, Before}
 use Rattle.keydir.specs.Slots.{freeSlot, slotAt, slotsOf, keyOf}
-use Rattle.keydir.specs.Place.{halved, orderAt, placeOf, placeIn, further, byOrder, All, Sorted, sorted-none, sorted-more, Among}
+use Rattle.keydir.specs.Place.{halved, orderAt, placeOf, placeIn, further, Sorted, sorted-more, Among}
 use Rattle.keydir.proofs.SlotLaws.{slot-at-is, slots-length}
-use Rattle.keydir.proofs.HalveLaws.{Halving, halving-start, halving-at, halving-end, halved-among, among-at, among-before, Parted, Spot, Climbs, halved-spot}
+use Rattle.keydir.proofs.HalveLaws.{halved-among, among-order, among-at, among-before, Parted, Spot, Climbs, halved-spot}
 use Rattle.keydir.proofs.CountLaws.{all-at}
 
 -- ---- the loop that searches
@@ -43,6 +43,17 @@ module _ (log key : List ℕ) (ss : List Slot) where
 
   pub place-before : (i : ℕ) → placeOf log key ss ≡ Before i → i ≤ length ss
   place-before i e = among-before (length ss) (placeOf log key ss) i place-among e
+
+among-further : (n : ℕ) (r : Found) → Among n r → Among (suc n) (further r)
+among-further n (At i) a = omega arith
+among-further n (Before i) a = omega arith
+
+pub place-in-among : (log key : List ℕ) (ss : List Slot) → Among (length ss) (placeIn log key ss)
+unfolding placeIn
+place-in-among log key [] = omega arith
+place-in-among log key (s ∷ ss) =
+    among-order (suc (length ss)) (compareBytes (keyOf log s) key) (further (placeIn log key ss)) (At 0) (Before 0)
+    (among-further (length ss) (placeIn log key ss) (place-in-among log key ss)) (omega arith) (omega arith)
 
 -- ---- slots whose keys rise
 

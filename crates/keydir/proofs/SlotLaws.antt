@@ -3,9 +3,8 @@ use Prim.Native.Nat.{ℕ, zero, suc, _+_, _-_, _*_, _<_, _≤_}
 use mathlib.Core.Path.{_≡_, refl, sym, ap, _∙_}
 use mathlib.Core.List.{List, [], _∷_, _++_, append-assoc}
 use native.Mathlib.Omega.{arith}
-use native.Mathlib.Numerals.{add-one}
-use lib.ListN.{length, take, drop, getD, set, length-append, length-take, length-drop, take-append-drop}
-use lib.Seq.{take-at, drop-at, take-nil, drop-nil, drop-drop, getD-drop, slice, length-slice, take-append-le, drop-append-le, sets-eq}
+use lib.ListN.{length, take, drop, getD, set, replicate, length-append, length-take, length-drop}
+use lib.Seq.{take-at, take-nil, drop-nil, drop-drop, getD-drop, slice, length-slice, take-append-le, drop-append-le, sets-eq}
 use Rattle.keycode.specs.Buffer.{put}
 use Rattle.keycode.proofs.BufferLaws.{put-put}
 use Rattle.keydir.specs.declared.slots.Slot.{Slot}
@@ -95,7 +94,7 @@ slot-read t i =
     let e₃ : getD t (slotWords * i + 2) 0 ≡ getD (drop (slotWords * i) t) 2 0 = sym (getD-drop (slotWords * i) t 2 0) in
     λ j. record { place = e₁ j; klen = e₂ j; vlen = e₃ j }
 
-pub store-is : (t : List ℕ) (at : ℕ) (s : Slot) → at + 3 ≤ length t → set (set (set t at (s .place)) (at + 1) (s .klen)) (at + 2) (s .vlen) ≡ put t at (wordsOf (s ∷ []))
+pub store-is : (t : List ℕ) (at : ℕ) (s : Slot) → at + slotWords ≤ length t → set (set (set t at (s .place)) (at + 1) (s .klen)) (at + 2) (s .vlen) ≡ put t at (wordsOf (s ∷ []))
 unfolding put wordsOf
 store-is t at s h =
     let e₁ : at + 1 ≡ suc at = omega arith in
@@ -104,10 +103,12 @@ store-is t at s h =
 
 -- a table of n slots in parts
 module _ (t : List ℕ) (n : ℕ) (room : slotWords * n ≤ length t) where
+  long : length (wordsOf (slotsOf n t)) ≡ slotWords * n
+  long = words-length (slotsOf n t) ∙ ap (λ (k : ℕ). slotWords * k) (slots-length n t)
+
   front : take (slotWords * n) t ≡ wordsOf (slotsOf n t)
   front =
-      let l : length (wordsOf (slotsOf n t)) ≡ slotWords * n = words-length (slotsOf n t) ∙ ap (λ (k : ℕ). slotWords * k) (slots-length n t) in
-      ap (take (slotWords * n)) (sym (words-slots n t room)) ∙ take-at (wordsOf (slotsOf n t)) (drop (slotWords * n) t) (slotWords * n) l
+      ap (take (slotWords * n)) (sym (words-slots n t room)) ∙ take-at (wordsOf (slotsOf n t)) (drop (slotWords * n) t) (slotWords * n) long
 
   -- the words from the i-th slot on
   back : (i : ℕ) → slice (slotWords * i) (slotWords * n) t ≡ wordsOf (drop i (slotsOf n t))
@@ -116,16 +117,14 @@ module _ (t : List ℕ) (n : ℕ) (room : slotWords * n ≤ length t) where
   -- the words before the i-th slot
   fore : (i : ℕ) → i ≤ n → take (slotWords * i) t ≡ wordsOf (take i (slotsOf n t))
   fore i h =
-      let l : length (wordsOf (slotsOf n t)) ≡ slotWords * n = words-length (slotsOf n t) ∙ ap (λ (k : ℕ). slotWords * k) (slots-length n t) in
       ap (take (slotWords * i)) (sym (words-slots n t room))
-      ∙ take-append-le (slotWords * i) (wordsOf (slotsOf n t)) (drop (slotWords * n) t) (omega arith)
+      ∙ take-append-le (slotWords * i) (wordsOf (slotsOf n t)) (drop (slotWords * n) t) (omega (arith, long))
       ∙ words-take i (slotsOf n t)
 
   rest : (i : ℕ) → i ≤ n → drop (slotWords * i) t ≡ wordsOf (drop i (slotsOf n t)) ++ drop (slotWords * n) t
   rest i h =
-      let l : length (wordsOf (slotsOf n t)) ≡ slotWords * n = words-length (slotsOf n t) ∙ ap (λ (k : ℕ). slotWords * k) (slots-length n t) in
       ap (drop (slotWords * i)) (sym (words-slots n t room))
-      ∙ drop-append-le (slotWords * i) (wordsOf (slotsOf n t)) (drop (slotWords * n) t) (omega arith)
+      ∙ drop-append-le (slotWords * i) (wordsOf (slotsOf n t)) (drop (slotWords * n) t) (omega (arith, long))
       ∙ ap (λ (r : List ℕ). r ++ drop (slotWords * n) t) (words-drop i (slotsOf n t))
 
   pub replace-is : (i : ℕ) (s : Slot) → i < n → put t (slotWords * i) (wordsOf (s ∷ [])) ≡ wordsOf (replaceAt i s (slotsOf n t)) ++ drop (slotWords * n) t
@@ -136,10 +135,10 @@ module _ (t : List ℕ) (n : ℕ) (room : slotWords * n ≤ length t) where
       (simp append-assoc)
 
   removed : (i : ℕ) (xs : List ℕ) → i < n → xs ≡ wordsOf (drop (suc i) (slotsOf n t)) → length xs ≡ slotWords * n - slotWords * suc i
-      → put t (slotWords * i) (xs ++ wordsOf (freeSlot ∷ [])) ≡ wordsOf (removeAt i (slotsOf n t)) ++ (0 ∷ 0 ∷ 0 ∷ drop (slotWords * n) t)
+      → put t (slotWords * i) (xs ++ wordsOf (freeSlot ∷ [])) ≡ wordsOf (removeAt i (slotsOf n t)) ++ (replicate slotWords 0 ++ drop (slotWords * n) t)
   unfolding put removeAt wordsOf
   removed i xs h e l =
-      let m : slotWords * i + length (xs ++ (0 ∷ 0 ∷ 0 ∷ [])) ≡ slotWords * n = simp length-append (omega arith) in
+      let m : slotWords * i + length (xs ++ wordsOf (freeSlot ∷ [])) ≡ slotWords * n = simp length-append (omega arith) in
       rw (m, fore i (omega arith), e, words-append (take i (slotsOf n t)) (drop (suc i) (slotsOf n t))) (simp append-assoc)
 
   inserted : (i : ℕ) (s : Slot) (xs : List ℕ) → i ≤ n → xs ≡ wordsOf (drop i (slotsOf n t)) → length xs ≡ slotWords * n - slotWords * i
@@ -150,25 +149,25 @@ module _ (t : List ℕ) (n : ℕ) (room : slotWords * n ≤ length t) where
       let m : slotWords * i + length (wordsOf (s ∷ []) ++ xs) ≡ slotWords * n + slotWords = simp length-append (omega arith) in
       rw (m, fore i h, e, words-append (take i (slotsOf n t)) (s ∷ drop i (slotsOf n t)), words-append (s ∷ []) (drop i (slotsOf n t))) (simp append-assoc)
 
-  pub remove-is : (i : ℕ) → i < n → put (copied t (slotWords * i + 3) (slotWords * (n - 1) + 3) (slotWords * i)) (slotWords * (n - 1)) (wordsOf (freeSlot ∷ []))
-      ≡ wordsOf (removeAt i (slotsOf n t)) ++ (0 ∷ 0 ∷ 0 ∷ drop (slotWords * n) t)
+  pub remove-is : (i : ℕ) → i < n → put (copied t (slotWords * i + slotWords) (slotWords * (n - 1) + slotWords) (slotWords * i)) (slotWords * (n - 1)) (wordsOf (freeSlot ∷ []))
+      ≡ wordsOf (removeAt i (slotsOf n t)) ++ (replicate slotWords 0 ++ drop (slotWords * n) t)
   unfolding copied
   remove-is i h =
       let xs : List ℕ = slice (slotWords * suc i) (slotWords * n) t in
-      let e₁ : slotWords * i + 3 ≡ slotWords * suc i = omega arith in
-      let e₂ : slotWords * (n - 1) + 3 ≡ slotWords * n = omega arith in
+      let e₁ : slotWords * i + slotWords ≡ slotWords * suc i = omega arith in
+      let e₂ : slotWords * (n - 1) + slotWords ≡ slotWords * n = omega arith in
       let l : length xs ≡ slotWords * n - slotWords * suc i = length-slice (slotWords * suc i) (slotWords * n) t room in
       let e₃ : slotWords * (n - 1) ≡ slotWords * i + length xs = omega arith in
       rw (e₁, e₂, e₃) (put-put t (slotWords * i) xs (omega arith) (wordsOf (freeSlot ∷ [])) ∙ removed i xs h (back (suc i)) l)
 
 pub insert-is : (t : List ℕ) (n i : ℕ) (s : Slot) → i ≤ n → slotWords * n + slotWords ≤ length t
-    → put (copied t (slotWords * i) (slotWords * n) (slotWords * i + 3)) (slotWords * i) (wordsOf (s ∷ [])) ≡ wordsOf (insertAt i s (slotsOf n t)) ++ drop (slotWords * n + slotWords) t
+    → put (copied t (slotWords * i) (slotWords * n) (slotWords * i + slotWords)) (slotWords * i) (wordsOf (s ∷ [])) ≡ wordsOf (insertAt i s (slotsOf n t)) ++ drop (slotWords * n + slotWords) t
 unfolding copied
 insert-is t n i s h k =
     let xs : List ℕ = slice (slotWords * i) (slotWords * n) t in
     let ws : List ℕ = wordsOf (s ∷ []) in
-    let l : length ws ≡ 3 = words-length (s ∷ []) in
-    let e : slotWords * i + 3 ≡ slotWords * i + length ws = omega arith in
+    let l : length ws ≡ slotWords = words-length (s ∷ []) in
+    let e : slotWords * i + slotWords ≡ slotWords * i + length ws = omega arith in
     ap (λ (g : ℕ). put (put t g xs) (slotWords * i) ws) e
     ∙ put-first t (slotWords * i) ws xs (omega arith)
     ∙ inserted t n (omega arith) i s xs h (back t n (omega arith) i) (length-slice (slotWords * i) (slotWords * n) t (omega arith))

@@ -1,6 +1,6 @@
 -- Laws of slots put in and taken out: what holds of each slot stays, and the keys go on rising. Assumes nothing.
 use Prim.Native.Nat.{ℕ, zero, suc, _+_}
-use mathlib.Core.Path.{_≡_, refl, sym, ap, _∙_, subst}
+use mathlib.Core.Path.{_≡_, refl, ap, _∙_, subst}
 use mathlib.Core.List.{List, [], _∷_, _++_}
 use lib.ListN.{take, drop}
 use Rattle.keycode.specs.Order.{compareBytes}
@@ -87,3 +87,22 @@ module _ (log : List ℕ) where
   pub sorted-cut : (ss : List Slot) (f : Found) → Sorted log ss → Sorted log (cutAt f ss)
   sorted-cut ss (At i) q = sorted-remove ss i q
   sorted-cut ss (Before i) q = q
+
+-- ---- another log in which the slots' keys are the same
+
+module _ (log log′ : List ℕ) where
+  abbrev pub Kept : Slot → Type 0
+  Kept s = keyOf log′ s ≡ keyOf log s
+
+  over-kept : (k : List ℕ) (ss : List Slot) → All Kept ss → All (Over log k) ss → All (Over log′ k) ss
+  over-kept k [] a q = all-none
+  over-kept k (s ∷ ss) (all-more e a) (all-more p q) = all-more {x = s} (rw e p) (over-kept k ss a q)
+
+  pub sorted-kept : (ss : List Slot) → All Kept ss → Sorted log ss → Sorted log′ ss
+  sorted-kept [] a q = sorted-none
+  sorted-kept (s ∷ ss) (all-more e a) (sorted-more p q) = sorted-more {s = s} {ss = ss} (rw e (over-kept (keyOf log s) ss a p)) (sorted-kept ss a q)
+
+  pub place-kept : (key : List ℕ) (ss : List Slot) → All Kept ss → placeIn log′ key ss ≡ placeIn log key ss
+  unfolding placeIn
+  place-kept key [] a = refl
+  place-kept key (s ∷ ss) (all-more e a) = rw (e, place-kept key ss a)

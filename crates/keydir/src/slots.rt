@@ -5,7 +5,7 @@ use keycode::parts::clip;
 ghost use mathlib.Core.Path.{_≡_};
 ghost use mathlib.Core.List.{[], _∷_, _++_};
 ghost use Prim.Native.Nat.{_+_, _*_, _≤_, _<_};
-ghost use lib.ListN.{length, drop};
+ghost use lib.ListN.{length, drop, replicate};
 ghost use Rattle.keycode.specs.Buffer.{put};
 ghost use Rattle.keydir.specs.Slots.{slotWords, slotAt, slotsOf, wordsOf, insertAt, replaceAt, removeAt, keyOf, valueOf};
 ghost use Rattle.keydir.specs.Place.{countOf};
@@ -64,19 +64,16 @@ pub fn replace(table: &mut [u32], count: usize, i: usize, s: Slot)
 // The i-th of `count` slots gone, the words that it frees at the end cleared.
 pub fn remove(table: &mut [u32], count: usize, i: usize)
     requires { ⌜ (i < count) × (slotWords * count ≤ length (now table)) ⌝ }
-    ensures { λ _. ⌜ now (table .exit) ≡ wordsOf (removeAt i (slotsOf count (now (table .entry)))) ++ (0 ∷ 0 ∷ 0 ∷ drop (slotWords * count) (now (table .entry))) ⌝ }
+    ensures { λ _. ⌜ now (table .exit) ≡ wordsOf (removeAt i (slotsOf count (now (table .entry)))) ++ (replicate slotWords 0 ++ drop (slotWords * count) (now (table .entry))) ⌝ }
 {
     let last = SLOT_WORDS * (count - 1);
     shift_down(table, SLOT_WORDS * i, last);
-    store(
-        table,
-        last,
-        Slot {
-            place: 0,
-            klen: 0,
-            vlen: 0,
-        },
-    );
+    let free = Slot {
+        place: 0,
+        klen: 0,
+        vlen: 0,
+    };
+    store(table, last, free);
 }
 
 // How many slots are in use.

@@ -1,6 +1,5 @@
 -- `find` halves towards the place of the key.
 use Prim.Native.Nat.{_-_}
-use mathlib.Core.Path.{sym, _∙_}
 use Rattle.keydir.specs.Slots.{slotsOf}
 use Rattle.keydir.specs.Place.{orderAt}
 use Rattle.keydir.proofs.HalveLaws.{Halving, halving-start, halving-up, halving-at, halving-down, halving-end}
@@ -26,7 +25,7 @@ enum-told : tie.Need-enum-told Inv-loop μ-loop
 enum-told c = search needs
 
 loop-again : tie.Need-loop-again Inv-loop μ-loop
-loop-again c = halving-up (c .before .before .before .before .loop .inv) (c .before .before .before .loop-test .taken) (sym (c .before .before .order-at .ensures) ∙ c .enum-told .given .1)
+loop-again c = halving-up (c .before .before .before .before .loop .inv) (c .before .before .before .loop-test .taken) (c .before .before .order-at .ensures) (c .enum-told .given .1)
 
 enum-told-2 : tie.Need-enum-told-2 Inv-loop μ-loop
 enum-told-2 c = search needs
@@ -34,13 +33,13 @@ enum-told-2 c = search needs
 returns : tie.Need-returns Inv-loop μ-loop
 returns c =
     let a = c .before .before .before .before .before .before .before .before .args in
-    place-is (a .log .now) (a .key .now) (a .table .now) (a .count) (halving-at (c .before .before .before .before .loop .inv) (c .before .before .before .loop-test .taken) (sym (c .before .before .order-at .ensures) ∙ c .enum-told2 .given .1))
+    place-is (a .log .now) (a .key .now) (a .table .now) (a .count) (halving-at (c .before .before .before .before .loop .inv) (c .before .before .before .loop-test .taken) (c .before .before .order-at .ensures) (c .enum-told2 .given .1))
 
 enum-told-3 : tie.Need-enum-told-3 Inv-loop μ-loop
 enum-told-3 c = search needs
 
 loop-again-2 : tie.Need-loop-again-2 Inv-loop μ-loop
-loop-again-2 c = halving-down (c .before .before .before .before .loop .inv) (c .before .before .before .loop-test .taken) (sym (c .before .before .order-at .ensures) ∙ c .enum-told3 .given .1)
+loop-again-2 c = halving-down (c .before .before .before .before .loop .inv) (c .before .before .before .loop-test .taken) (c .before .before .order-at .ensures) (c .enum-told3 .given .1)
 
 returns-2 : tie.Need-returns-2 Inv-loop μ-loop
 returns-2 c =

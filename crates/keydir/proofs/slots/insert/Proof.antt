@@ -3,7 +3,7 @@ use Prim.Native.Nat.{ℕ, _*_}
 use mathlib.Core.Path.{ap, _∙_}
 use mathlib.Core.List.{List, [], _∷_}
 use Rattle.keycode.specs.Buffer.{put}
-use Rattle.keydir.specs.Slots.{wordsOf}
+use Rattle.keydir.specs.Slots.{slotWords, wordsOf}
 use Rattle.keydir.proofs.SlotLaws.{insert-is}
 use borrow.Author.Needs.{needs}
 use Rattle.keydir.proofs.slots.insert.Statement.{statement}
@@ -12,7 +12,7 @@ use Rattle.keydir.proofs.slots.insert.Tie as tie
 returns : tie.Need-returns
 returns c =
     let a = c .before .before .before .before .before .before .before .before .before .args in
-    c .before .before .store .ensures ∙ ap (λ (x : List ℕ). put x (3 * a .i) (wordsOf (a .s ∷ []))) (c .before .before .before .before .before .before .shift-up .ensures) ∙ insert-is (a .table .now) (a .count) (a .i) (a .s) (c .before .before .before .before .before .before .before .before .before .pre .0) (c .before .before .before .before .before .before .before .before .before .pre .1)
+    c .before .before .store .ensures ∙ ap (λ (x : List ℕ). put x (slotWords * a .i) (wordsOf (a .s ∷ []))) (c .before .before .before .before .before .before .shift-up .ensures) ∙ insert-is (a .table .now) (a .count) (a .i) (a .s) (c .before .before .before .before .before .before .before .before .before .pre .0) (c .before .before .before .before .before .before .before .before .before .pre .1)
 
 pub insert-spec : {M : Type 1} → statement M
 insert-spec =

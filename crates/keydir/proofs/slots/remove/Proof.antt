@@ -3,7 +3,7 @@ use Prim.Native.Nat.{ℕ, _-_, _*_}
 use mathlib.Core.Path.{ap, _∙_}
 use mathlib.Core.List.{List, [], _∷_}
 use Rattle.keycode.specs.Buffer.{put}
-use Rattle.keydir.specs.Slots.{freeSlot, wordsOf}
+use Rattle.keydir.specs.Slots.{slotWords, freeSlot, wordsOf}
 use Rattle.keydir.proofs.SlotLaws.{remove-is}
 use borrow.Author.Needs.{needs}
 use Rattle.keydir.proofs.slots.remove.Statement.{statement}
@@ -12,7 +12,7 @@ use Rattle.keydir.proofs.slots.remove.Tie as tie
 returns : tie.Need-returns
 returns c =
     let a = c .before .before .before .before .before .before .before .before .before .args in
-    c .before .before .store .ensures ∙ ap (λ (x : List ℕ). put x (3 * (a .count - 1)) (wordsOf (freeSlot ∷ []))) (c .before .before .before .before .before .before .shift-down .ensures) ∙ remove-is (a .table .now) (a .count) (c .before .before .before .before .before .before .before .before .before .pre .1) (a .i) (c .before .before .before .before .before .before .before .before .before .pre .0)
+    c .before .before .store .ensures ∙ ap (λ (x : List ℕ). put x (slotWords * (a .count - 1)) (wordsOf (freeSlot ∷ []))) (c .before .before .before .before .before .before .shift-down .ensures) ∙ remove-is (a .table .now) (a .count) (c .before .before .before .before .before .before .before .before .before .pre .1) (a .i) (c .before .before .before .before .before .before .before .before .before .pre .0)
 
 pub remove-spec : {M : Type 1} → statement M
 remove-spec =
