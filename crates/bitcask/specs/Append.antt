@@ -7,7 +7,7 @@ use lib.ListN.{length}
 use Rattle.keycode.specs.Tests.{pick}
 use Rattle.keycode.specs.Buffer.{put}
 use Rattle.keycode.specs.declared.refusal.Refusal.the-variants.{LogFull, TableFull}
-use Rattle.entry.specs.Entry.{Entry, set, del, bytesOf, sizeOf}
+use Rattle.entry.specs.Entry.{Entry, set, del, entryKey, entryValue, bytesOf, sizeOf}
 use Rattle.keydir.specs.declared.slots.Slot.{Slot}
 use Rattle.keydir.specs.Slots.{slotWords, slotsOf}
 use Rattle.keydir.specs.Place.{placeOf, entered, cutAt, laid}
@@ -20,7 +20,7 @@ use Rattle.bitcask.specs.declared.append.Room.the-variants.{Left, Full}
 use Rattle.bitcask.specs.declared.append.Check.{Check}
 use Rattle.bitcask.specs.declared.append.Check.the-variants.{Fine, Refused}
 use Rattle.recovery.specs.Map.{Pair, after}
-use Rattle.recovery.specs.Recover.{itemFor, mapOf}
+use Rattle.recovery.specs.Recover.{mapOf}
 
 -- ---- one entry, as the code appends it
 
@@ -31,9 +31,13 @@ pub record State : Type 0 where
   pub table : List ℕ
   pub count : ℕ
 
+-- the slot of an entry at an offset
+abbrev pub slotOf : ℕ → Entry → Slot
+slotOf at e = record { place = at + 1; klen = length (entryKey e); vlen = length (entryValue e) }
+
 -- the slots with an entry's own put in, or its key's taken out
 abbrev pub slotsAfter : List ℕ → ℕ → List ℕ → Entry → List Slot → List Slot
-slotsAfter log used t (set k v) ss = entered t (itemFor used (set k v) .slot) (placeOf log k ss) ss
+slotsAfter log used t (set k v) ss = entered t (slotOf used (set k v)) (placeOf log k ss) ss
 slotsAfter log used t (del k) ss = cutAt (placeOf log k ss) ss
 
 -- the store with an entry behind its last

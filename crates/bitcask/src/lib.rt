@@ -3,5 +3,7 @@
 pub mod answers;
 pub mod append;
 pub mod change;
+pub mod compact;
 pub mod rank;
 pub mod read;
+pub mod status;

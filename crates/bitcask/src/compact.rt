@@ -1,0 +1,90 @@
+// Compaction: the live entries in key order into a second buffer, the target, and the table's slots renamed to their places there.
+// The old log stays.
+use crate::status::Sum;
+use crate::status::live_upto;
+use entry::put_set;
+use keycode::Refusal;
+use keycode::limits::MAX_LOG;
+use keydir::SLOT_WORDS;
+use keydir::Slot;
+use keydir::count;
+use keydir::key_of;
+use keydir::slot_at;
+use keydir::slots::store;
+use keydir::value_of;
+use recovery::Changed;
+use recovery::Used;
+use recovery::request::fits;
+ghost use mathlib.Core.Path.{_≡_};
+ghost use mathlib.Core.List.{[], _∷_};
+ghost use Prim.Native.Nat.{_+_, _*_, _≤_};
+ghost use lib.ListN.{length};
+ghost use Rattle.keycode.specs.Limits.{maxLog};
+ghost use Rattle.keycode.specs.Buffer.{put};
+ghost use Rattle.entry.specs.Entry.{bytesOf, sizeOf};
+ghost use Rattle.keydir.specs.Slots.{slotWords, slotAt, slotsOf, wordsOf};
+ghost use Rattle.recovery.specs.Recover.{view};
+ghost use Rattle.bitcask.specs.Append.{slotOf, sizeAll};
+ghost use Rattle.bitcask.specs.Compaction.{entriesOf, entryIn, Moved};
+ghost use Rattle.bitcask.specs.Promises.{Compacts};
+
+// The entry of the i-th slot into the target from index `to` on, and the slot renamed to it; gives the index after it.
+fn move_slot(log: &[u8], table: &mut [u32], i: usize, target: &mut [u8], to: usize) -> usize
+    requires { ⌜ (slotWords * i + slotWords ≤ length (now table)) × (to + sizeOf (entryIn (now log) (slotAt (now table) i)) ≤ length (now target)) × (length (now target) ≤ maxLog) ⌝ }
+    ensures { λ r. ⌜ (r ≡ to + sizeOf (entryIn (now (log .entry)) (slotAt (now (table .entry)) i)))
+        × (now (table .exit) ≡ put (now (table .entry)) (slotWords * i) (wordsOf (slotOf to (entryIn (now (log .entry)) (slotAt (now (table .entry)) i)) ∷ [])))
+        × (now (target .exit) ≡ put (now (target .entry)) to (bytesOf (entryIn (now (log .entry)) (slotAt (now (table .entry)) i)))) ⌝ }
+{
+    let s = slot_at(table, i);
+    let key = key_of(log, s);
+    let value = value_of(log, s);
+    let klen = key.len();
+    let vlen = value.len();
+    let end = put_set(target, to, key, value, &value[..0]);
+    store(
+        table,
+        SLOT_WORDS * i,
+        Slot {
+            place: (to + 1) as u32,
+            klen: klen as u32,
+            vlen: vlen as u32,
+        },
+    );
+    end
+}
+
+// The entries of the first `count` slots into the target from its front on, and the slots renamed; gives the index after them.
+pub fn move_all(log: &[u8], table: &mut [u32], count: usize, target: &mut [u8]) -> usize
+    requires { ⌜ (slotWords * count ≤ length (now table)) × (sizeAll (entriesOf (view (now log) (slotsOf count (now table)))) ≤ length (now target)) × (length (now target) ≤ maxLog) ⌝ }
+    ensures { λ r. ⌜ Moved (now (table .entry)) (now (target .entry)) (entriesOf (view (now (log .entry)) (slotsOf count (now (table .entry))))) (now (table .exit)) (now (target .exit)) r ⌝ }
+{
+    let mut to = 0;
+    let mut i = 0;
+    while i < count {
+        to = move_slot(log, table, i, target, to);
+        i += 1;
+    }
+    to
+}
+
+// 13 where a size is wrong, 7 where the live entries exceed the target; else the target's used length.
+pub fn compact(log: &[u8], used: Used, table: &mut [u32], target: &mut [u8]) -> Changed
+    ensures { λ r. ⌜ Compacts (now (log .entry)) (used .len) (now (table .entry)) (now (target .entry)) r (now (table .exit)) (now (target .exit)) ⌝ }
+{
+    let end = used.len;
+    if !fits(log.len(), end, table.len()) {
+        return Changed::Refused(Refusal::BadRequest);
+    }
+    let room = target.len();
+    if MAX_LOG < room {
+        return Changed::Refused(Refusal::BadRequest);
+    }
+    let n = count(table);
+    match live_upto(table, n, room) {
+        Sum::Over => Changed::Refused(Refusal::LogFull),
+        Sum::Total(_) => {
+            let len = move_all(log, table, n, target);
+            Changed::Done(Used { len })
+        }
+    }
+}
