@@ -11,3 +11,4 @@ pub mod MoveLaws
 pub mod PackLaws
 pub mod CompactLaws
 pub mod CompactUnique
+pub mod GrownLaws

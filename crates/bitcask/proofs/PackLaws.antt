@@ -4,7 +4,7 @@ use Prim.Native.Nat.{ℕ, _+_, _≤_}
 use mathlib.Core.Path.{_≡_, refl, sym, ap, _∙_, subst}
 use mathlib.Core.List.{List, [], _∷_, _++_, append-assoc, append-nil}
 use native.Mathlib.Omega.{arith}
-use lib.ListN.{length}
+use lib.ListN.{length, length-append}
 use lib.Seq.{take-length, drop-length}
 use Rattle.keycode.specs.Limits.{maxLog}
 use Rattle.keycode.specs.Buffer.{put}
@@ -20,6 +20,7 @@ use Rattle.keydir.specs.Place.{placeIn, putAt, All, all-none, all-more}
 use Rattle.recovery.specs.Map.{Pair, putIn, after, Rising, rising-more}
 use Rattle.recovery.specs.Recover.{items, ends, fold, recovered, view, mapOf}
 use Rattle.recovery.proofs.ItemLaws.{item-none, items-stop}
+use Rattle.recovery.proofs.GrowLaws.{Grown, grown-start, grown-append, grown-more}
 use Rattle.recovery.proofs.AgreeLaws.{append-clean, append-slots, append-map}
 use Rattle.bitcask.specs.Append.{slotOf, sizeAll, bytesAll}
 use Rattle.bitcask.specs.Compaction.{entriesOf, placed}
@@ -64,12 +65,13 @@ pub record Packed (g : List ℕ) (m : List Pair) : Type 0 where
   pub clean : ends 0 (items (put g 0 (bytesAll (entriesOf m))) (sizeAll (entriesOf m)) 0) ≡ sizeAll (entriesOf m)
   pub slots : recovered (put g 0 (bytesAll (entriesOf m))) (sizeAll (entriesOf m)) ≡ placed 0 (entriesOf m)
   pub map : mapOf (put g 0 (bytesAll (entriesOf m))) (sizeAll (entriesOf m)) ≡ m
+  pub grown : Grown (length m) (put g 0 (bytesAll (entriesOf m))) (sizeAll (entriesOf m))
 
 packed-none : (g : List ℕ) → Packed g []
 unfolding entriesOf bytesAll sizeAll placed recovered mapOf view fold ends
 packed-none g =
     let e : items (put g 0 []) 0 0 ≡ [] = items-stop (put g 0 []) 0 0 (item-none (put g 0 []) 0 0 (omega arith)) in
-    record { clean = rw e; slots = rw e; map = rw e }
+    record { clean = rw e; slots = rw e; map = rw e; grown = grown-start 0 (put g 0 []) }
 
 module _ (g : List ℕ) (small : length g ≤ maxLog) (m : List Pair) (q : Pair) (room : sizeAll (entriesOf (m ++ (q ∷ []))) ≤ length g) (low : Below (q .key) m) (p : Packed g m) where
   abbrev es : List Entry
@@ -113,11 +115,19 @@ module _ (g : List ℕ) (small : length g ≤ maxLog) (m : List Pair) (q : Pair)
   unfolding after
   map-more = append-map log (sizeAll es) e log-small log-room (p .clean) ∙ ap (putIn q) (p .map) ∙ put-last q low
 
+  grown-one : Grown (length (m ++ (q ∷ []))) (put log (sizeAll es) (bytesOf e)) (sizeAll es + sizeOf e)
+  unfolding after
+  grown-one =
+      let n : length (m ++ (q ∷ [])) ≡ length m + 1 = length-append m (q ∷ []) in
+      let k : after e (mapOf log (sizeAll es)) ≡ m ++ (q ∷ []) = ap (putIn q) (p .map) ∙ put-last q low in
+      grown-append log (sizeAll es) e log-small log-room (length (m ++ (q ∷ []))) (grown-more (length m) (length (m ++ (q ∷ []))) (omega arith) (p .grown)) (omega (arith, ap length k))
+
   packed-more : Packed g (m ++ (q ∷ []))
   packed-more = record {
     clean = rw (entries-more, log-more, size-more es e) (append-clean log (sizeAll es) e log-small log-room (p .clean));
     slots = rw (entries-more, log-more, size-more es e) slots-more;
     map = rw (entries-more, log-more, size-more es e) map-more;
+    grown = rw (entries-more, log-more, size-more es e) grown-one;
   }
 
 -- ---- all of them
