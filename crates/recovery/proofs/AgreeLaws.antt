@@ -187,8 +187,7 @@ module _ (log : List ℕ) (used : ℕ) (e : Entry) (small : length log ≤ maxLo
       let m : slotWords * length rs ≤ length t = omega arith in
       let l : length (tableOf (length t) rs) ≡ length t = table-length (length t) rs m in
       let so = agrees-sound log used t g in
-      let q : stepAt (itemFor used e .gone) (itemFor used e .slot) (placeOf log (entryKey e) (slotsOf (countOf t) t)) (slotsOf (countOf t) t) ≡ rs =
-      rw (agrees-place log used t g (entryKey e), agrees-slots log used t g) (sym (append-slots (g .clean))) in
+      let q : stepAt (itemFor used e .gone) (itemFor used e .slot) (placeOf log (entryKey e) (slotsOf (countOf t) t)) (slotsOf (countOf t) t) ≡ rs = rw (agrees-place log used t g (entryKey e), agrees-slots log used t g) (sym (append-slots (g .clean))) in
       subst (λ (x : List ℕ). Agrees log′ (used + sizeOf e) x)
       (sym (ap (λ (x : List Slot). laid (countOf t) x t) q ∙ laid-again log used t g rs m))
       (record {

@@ -14,7 +14,7 @@ use Rattle.keydir.specs.declared.place.Found.{Found}
 use Rattle.keydir.specs.declared.place.Found.the-variants.{At, Before}
 use Rattle.keydir.specs.Slots.{insertAt, replaceAt, removeAt, keyOf, valueOf}
 use Rattle.keydir.specs.Place.{placeIn, All, all-none, all-more, Sorted, sorted-none}
-use Rattle.keydir.proofs.SortLaws.{all-put, all-cut, sorted-put, sorted-cut}
+use Rattle.keydir.proofs.SortLaws.{all-turn, all-put, all-cut, sorted-put, sorted-cut, place-kept}
 use Rattle.recovery.specs.Map.{Rising}
 use Rattle.recovery.specs.Recover.{Item, itemOf, next, items, ends, stepAt, step, fold, recovered, live, view, mapOf}
 use Rattle.recovery.proofs.ItemLaws.{item-none, items-stop, items-next, Chain, chain-none, chain-more, items-chain, chain-ends, ends-append, items-extend, items-same}
@@ -126,9 +126,7 @@ module _ (log log′ : List ℕ) (used : ℕ) (agree : take used log ≡ take us
   value-same {s} h = part-same log log′ used agree (s .place + 7 + s .klen) (s .vlen) (omega arith)
 
   pub place-same : (key : List ℕ) {ss : List Slot} → All (Inside used) ss → placeIn log key ss ≡ placeIn log′ key ss
-  unfolding placeIn
-  place-same key all-none = refl
-  place-same key (all-more h a) = rw (key-same h, place-same key a)
+  place-same key {ss} a = place-kept log′ log key ss (all-turn (λ s h. key-same h) a)
 
   step-same : (i : Item) {ss : List Slot} → Inside used (i .slot) → All (Inside used) ss → step log i ss ≡ step log′ i ss
   unfolding step
@@ -163,8 +161,7 @@ module _ (log log′ : List ℕ) (used : ℕ) (agree : take used log ≡ take us
   module _ (used′ : ℕ) (i : Item) (clean : ends 0 (items log used 0) ≡ used) (read : itemOf (entryAt log′ used′ used) used ≡ some i) (last : next i ≡ used′) (more : used ≤ used′) where
     pub items-one : items log′ used′ 0 ≡ items log used 0 ++ (i ∷ [])
     items-one =
-        let z : items log′ used′ used ≡ i ∷ [] =
-        items-next log′ used′ used i read ∙ ap (λ (a : ℕ). i ∷ items log′ used′ a) last
+        let z : items log′ used′ used ≡ i ∷ [] = items-next log′ used′ used i read ∙ ap (λ (a : ℕ). i ∷ items log′ used′ a) last
         ∙ ap (λ (x : List Item). i ∷ x) (items-stop log′ used′ used′ (item-none log′ used′ used′ (omega arith))) in
         items-extend log log′ used used′ agree more 0 ∙ rw (clean, z)
 

@@ -16,6 +16,7 @@ use Rattle.keydir.specs.declared.place.Found.the-variants.{At, Before}
 use Rattle.keydir.specs.Slots.{slotWords, keyOf}
 use Rattle.keydir.specs.Place.{placeIn, Among, All, all-none}
 use Rattle.keydir.proofs.SlotLaws.{insert-length}
+use Rattle.keydir.proofs.PlaceLaws.{place-in-among}
 use Rattle.recovery.specs.declared.request.Used.{Used}
 use Rattle.recovery.specs.declared.request.Changed.{Changed}
 use Rattle.recovery.specs.declared.request.Changed.the-variants.{Done}
@@ -25,9 +26,9 @@ use Rattle.recovery.specs.Agree.{fit}
 use Rattle.recovery.specs.Promises.{openAnswer, Opens}
 use Rattle.recovery.proofs.ItemLaws.{Chain, chain-none, chain-more, items-chain}
 use Rattle.recovery.proofs.CutLaws.{end-items, end-recovered}
-use Rattle.recovery.proofs.FoldLaws.{Inside, all-step, key-same, place-same, recovered-sorted, recovered-same}
+use Rattle.recovery.proofs.FoldLaws.{Inside, all-step, key-same, place-same}
 use Rattle.recovery.proofs.AgreeLaws.{map-length, append-before, append-clean, append-items, append-step, append-map}
-use Rattle.recovery.proofs.WalkLaws.{step-some, sorted-among}
+use Rattle.recovery.proofs.WalkLaws.{step-some}
 use Rattle.recovery.proofs.OpenLaws.{then-some, Opened}
 
 -- ---- a run with room
@@ -65,9 +66,11 @@ room-for cap true s f ss a h = refl
 room-for cap false s (At i) ss a h = refl
 room-for cap false s (Before i) ss a h = lt-ltb (length ss) cap (omega (arith, insert-length i s ss a))
 
-run-one : (log : List ℕ) (cap : ℕ) (i : Item) (ss : List Slot) → Among (length ss) (placeIn log (keyOf log (i .slot)) ss) → length (step log i ss) ≤ cap → run log cap (i ∷ []) ss ≡ some (step log i ss)
+run-one : (log : List ℕ) (cap : ℕ) (i : Item) (ss : List Slot) → length (step log i ss) ≤ cap → run log cap (i ∷ []) ss ≡ some (step log i ss)
 unfolding run step stepIn
-run-one log cap i ss a h = rw (room-for cap (i .gone) (i .slot) (placeIn log (keyOf log (i .slot)) ss) ss a h)
+run-one log cap i ss h =
+    let k = keyOf log (i .slot) in
+    rw (room-for cap (i .gone) (i .slot) (placeIn log k ss) ss (place-in-among log k ss) h)
 
 -- ---- a log that grew
 
@@ -95,17 +98,14 @@ module _ (log : List ℕ) (used : ℕ) (e : Entry) (small : length log ≤ maxLo
       let ss : List Slot = recovered log used in
       let agree : take used log ≡ take used log′ = append-before log used e small room in
       let s : recovered log′ (used + sizeOf e) ≡ step log′ i ss = append-step log used e small room (g .clean) in
-      let n : length (step log′ i ss) ≡ length (after e (mapOf log used)) =
-      ap length (sym s) ∙ sym (map-length log′ (used + sizeOf e)) ∙ ap length (append-map log used e small room (g .clean)) in
-      let a : Among (length ss) (placeIn log′ (keyOf log′ (i .slot)) ss) =
-      sorted-among log′ (keyOf log′ (i .slot)) ss (rw (recovered-same log log′ used agree) (recovered-sorted log′ used)) in
+      let n : length (step log′ i ss) ≡ length (after e (mapOf log used)) = ap length (sym s) ∙ sym (map-length log′ (used + sizeOf e)) ∙ ap length (append-map log used e small room (g .clean)) in
       record {
         clean = append-clean log used e small room (g .clean);
         runs =
             ap (λ (is : List Item). run log′ cap is []) (append-items log used e small room (g .clean))
             ∙ run-append log′ cap (items log used 0) (i ∷ []) []
             ∙ ap (λ (x : Option (List Slot)). thenRun x (λ r. run log′ cap (i ∷ []) r)) (sym (run-same log log′ used agree cap (items-chain log used 0) all-none) ∙ g .runs)
-            ∙ run-one log′ cap i ss a (omega arith) ∙ ap some (sym s);
+            ∙ run-one log′ cap i ss (omega arith) ∙ ap some (sym s);
       }
 
 -- ---- with more room

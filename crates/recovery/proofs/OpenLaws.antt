@@ -13,7 +13,8 @@ use Rattle.keycode.specs.declared.refusal.Refusal.the-variants.{BadRequest}
 use Rattle.keycode.proofs.Basics.{nope}
 use Rattle.keydir.specs.declared.slots.Slot.{Slot}
 use Rattle.keydir.specs.Slots.{slotWords, tableOf, keyOf}
-use Rattle.keydir.specs.Place.{placeIn, Sorted, sorted-none}
+use Rattle.keydir.specs.Place.{placeIn}
+use Rattle.keydir.proofs.PlaceLaws.{place-in-among}
 use Rattle.keydir.proofs.TableLaws.{table-empty, table-length}
 use Rattle.recovery.specs.declared.request.Used.{Used}
 use Rattle.recovery.specs.declared.request.Changed.{Changed}
@@ -22,9 +23,8 @@ use Rattle.recovery.specs.Recover.{Item, itemsOf, items, ends, step, fol
 use Rattle.recovery.specs.Agree.{fit, Agrees}
 use Rattle.recovery.specs.Promises.{openedBy, openAnswer, openTable, Opens}
 use Rattle.recovery.proofs.CutLaws.{end-within, end-items, end-recovered}
-use Rattle.recovery.proofs.FoldLaws.{step-sorted}
 use Rattle.recovery.proofs.AgreeLaws.{Sound, fit-sound, sound-fit}
-use Rattle.recovery.proofs.WalkLaws.{step-some, step-room, sorted-among}
+use Rattle.recovery.proofs.WalkLaws.{step-some, step-room}
 
 -- ---- a run with room
 
@@ -41,17 +41,16 @@ run-fold log cap (i ∷ is) ss e =
     let g = then-some (stepIn cap i f ss) (λ x. run log cap is x) e in
     run-fold log cap is (g .0) (g .2) ∙ ap (fold log is) (step-some cap i f ss (g .1) .1)
 
-run-room : (log : List ℕ) (cap : ℕ) (is : List Item) (ss : List Slot) {r : List Slot} → Sorted log ss → length ss ≤ cap → run log cap is ss ≡ some r → length r ≤ cap
+run-room : (log : List ℕ) (cap : ℕ) (is : List Item) (ss : List Slot) {r : List Slot} → length ss ≤ cap → run log cap is ss ≡ some r → length r ≤ cap
 unfolding run
-run-room log cap [] ss {r = r} s h e = let q : ss ≡ r = cc in subst (λ (x : List Slot). length x ≤ cap) q h
-run-room log cap (i ∷ is) ss s h e =
+run-room log cap [] ss {r = r} h e = let q : ss ≡ r = cc in subst (λ (x : List Slot). length x ≤ cap) q h
+run-room log cap (i ∷ is) ss h e =
     let k = keyOf log (i .slot) in
     let g = then-some (stepIn cap i (placeIn log k ss) ss) (λ x. run log cap is x) e in
-    run-room log cap is (g .0) (rw (step-some cap i (placeIn log k ss) ss (g .1) .1) (step-sorted log (i .gone) (i .slot) ss s))
-    (step-room cap i (placeIn log k ss) ss (g .1) (sorted-among log k ss s) h) (g .2)
+    run-room log cap is (g .0) (step-room cap i (placeIn log k ss) ss (g .1) (place-in-among log k ss) h) (g .2)
 
 pub run-within : (log : List ℕ) (used cap : ℕ) → run log cap (items log used 0) [] ≡ some (recovered log used) → length (recovered log used) ≤ cap
-run-within log used cap e = run-room log cap (items log used 0) [] sorted-none (omega arith) e
+run-within log used cap e = run-room log cap (items log used 0) [] (omega arith) e
 
 -- ---- an opening that was done
 
