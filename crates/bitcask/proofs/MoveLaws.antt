@@ -17,7 +17,7 @@ use Rattle.keydir.specs.Slots.{slotWords, freeSlot, slotHead, slotAt, slotsOf, 
 use Rattle.keydir.proofs.SlotLaws.{words-append, words-length, slots-length, slot-at-is}
 use Rattle.recovery.specs.Recover.{view}
 use Rattle.bitcask.specs.Append.{slotOf, sizeAll, bytesAll}
-use Rattle.bitcask.specs.Compaction.{entriesOf, entryIn, placed, Moved}
+use Rattle.bitcask.specs.Compaction.{entriesOf, entryIn, placed, MovedOne, Moved}
 
 -- ---- lists of entries
 
@@ -109,12 +109,11 @@ module _ {t g : List ℕ} {es : List Entry} {x y : List ℕ} {to : ℕ} (w : Mov
       let q : length b ≡ slotWords * i = words-are ∙ ap (λ (n : ℕ). slotWords * n) e in
       ap slotHead (ap (drop (slotWords * i)) (w .words ∙ put-front t b) ∙ drop-at b (drop (length b) t) (slotWords * i) q ∙ ap (λ (n : ℕ). drop n t) q)
 
-  moved-more : (e : Entry) {x′ y′ : List ℕ} {to′ : ℕ} → to′ ≡ to + sizeOf e → x′ ≡ put x (slotWords * length es) (wordsOf (slotOf to e ∷ [])) → y′ ≡ put y to (bytesOf e)
-      → Moved t g (es ++ (e ∷ [])) x′ y′ to′
-  moved-more e a b d = record {
-    words = b ∙ rw (w .words, w .last) (named-more es e t slots);
-    bytes = d ∙ rw (w .bytes, w .last) (laid-more es e g room);
-    last = a ∙ rw (w .last) (sym (size-more es e));
+  moved-more : (e : Entry) {x′ y′ : List ℕ} {to′ : ℕ} → MovedOne x y (length es) to e x′ y′ to′ → Moved t g (es ++ (e ∷ [])) x′ y′ to′
+  moved-more e o = record {
+    words = o .words ∙ rw (w .words, w .last) (named-more es e t slots);
+    bytes = o .bytes ∙ rw (w .bytes, w .last) (laid-more es e g room);
+    last = o .last ∙ rw (w .last) (sym (size-more es e));
   }
 
 -- ---- one slot's
@@ -129,10 +128,10 @@ module _ (log t : List ℕ) (i to : ℕ) {s : Slot} (es : s ≡ slotAt t i) {key
 
   pub slot-moved : (g : List ℕ) {t′ g′ : List ℕ} {r : ℕ} → r ≡ to + sizeOf (set key (value ++ []))
       → t′ ≡ put t (slotWords * i) (wordsOf (record { place = to + 1; klen = length key; vlen = length value } ∷ [])) → g′ ≡ put g to (bytesOf (set key (value ++ [])))
-      → (r ≡ to + sizeOf (entryIn log (slotAt t i))) × (t′ ≡ put t (slotWords * i) (wordsOf (slotOf to (entryIn log (slotAt t i)) ∷ []))) × (g′ ≡ put g to (bytesOf (entryIn log (slotAt t i))))
+      → MovedOne t g i to (entryIn log (slotAt t i)) t′ g′ r
   slot-moved g a b d =
       let n : value ++ [] ≡ value = append-nil value in
-      (a ∙ rw (n, ← entry-is), b ∙ rw (add-one to, ← entry-is), d ∙ rw (n, ← entry-is))
+      record { words = b ∙ rw (add-one to, ← entry-is); bytes = d ∙ rw (n, ← entry-is); last = a ∙ rw (n, ← entry-is) }
 
 -- ---- the loop
 
@@ -203,9 +202,8 @@ module _ (log t g : List ℕ) (n : ℕ) where
           let k = some-size (i + 1) in
           (omega arith, rw still (omega (arith, w .done .last)), omega arith)
 
-      pub moving-more : {x′ y′ : List ℕ} {to′ : ℕ} → (to′ ≡ to + sizeOf (entryIn log (slotAt x i))) × (x′ ≡ put x (slotWords * i) (wordsOf (slotOf to (entryIn log (slotAt x i)) ∷ []))) × (y′ ≡ put y to (bytesOf (entryIn log (slotAt x i))))
-          → Moving log t g n x′ y′ to′ (i + 1)
+      pub moving-more : {x′ y′ : List ℕ} {to′ : ℕ} → MovedOne x y i to (entryIn log (slotAt x i)) x′ y′ to′ → Moving log t g n x′ y′ to′ (i + 1)
       moving-more q = record {
         near = omega arith;
-        done = rw (some-more i here) (moved-more (w .done) slots-some room-some (entryIn log (slotAt t i)) (rw still at (q .0)) (rw (some-length i (w .near)) (rw still at (q .1))) (rw still at (q .2)));
+        done = rw (some-more i here) (moved-more (w .done) slots-some room-some (entryIn log (slotAt t i)) (rw (some-length i (w .near)) (rw still at q)));
       }

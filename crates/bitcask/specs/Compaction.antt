@@ -1,14 +1,14 @@
 -- What a compaction writes and what the status counts: both of the map. Document 01, 'Log entries and recovery'. Assumes nothing.
-use Prim.Native.Nat.{ℕ, _+_}
+use Prim.Native.Nat.{ℕ, _+_, _*_}
 use mathlib.Core.Path.{_≡_}
 use mathlib.Core.List.{List, [], _∷_}
 use lib.Dec.{leb}
 use lib.ListN.{length}
 use Rattle.keycode.specs.Tests.{pick}
 use Rattle.keycode.specs.Buffer.{put}
-use Rattle.entry.specs.Entry.{Entry, set, sizeOf}
+use Rattle.entry.specs.Entry.{Entry, set, bytesOf, sizeOf}
 use Rattle.keydir.specs.declared.slots.Slot.{Slot}
-use Rattle.keydir.specs.Slots.{wordsOf, keyOf, valueOf}
+use Rattle.keydir.specs.Slots.{slotWords, wordsOf, keyOf, valueOf}
 use Rattle.recovery.specs.Map.{Pair}
 use Rattle.bitcask.specs.declared.status.Sum.{Sum}
 use Rattle.bitcask.specs.declared.status.Sum.the-variants.{Total, Over}
@@ -39,7 +39,13 @@ unfoldable pub placed : ℕ → List Entry → List Slot
 placed at [] = []
 placed at (e ∷ es) = slotOf at e ∷ placed (at + sizeOf e) es
 
--- a table t and a target g that have become t′ and g′: the entries stand in the target and end at r, and the table's first slots name them
+-- a table t and a target g that have become t′ and g′: the entry stands in the target from `to` on and ends at r, and the i-th slot names it
+pub record MovedOne (t g : List ℕ) (i to : ℕ) (e : Entry) (t′ g′ : List ℕ) (r : ℕ) : Type 0 where
+  pub words : t′ ≡ put t (slotWords * i) (wordsOf (slotOf to e ∷ []))
+  pub bytes : g′ ≡ put g to (bytesOf e)
+  pub last : r ≡ to + sizeOf e
+
+-- the same of entries from the front on: they stand in the target and end at r, and the table's first slots name them
 pub record Moved (t g : List ℕ) (es : List Entry) (t′ g′ : List ℕ) (r : ℕ) : Type 0 where
   pub words : t′ ≡ put t 0 (wordsOf (placed 0 es))
   pub bytes : g′ ≡ put g 0 (bytesAll es)

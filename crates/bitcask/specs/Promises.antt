@@ -126,9 +126,3 @@ countsOf m used = record { keys = length m; size = contents m; used = used; live
 pub record Counting (log : List ℕ) (used : ℕ) (t : List ℕ) (r : Counted) : Type 0 where
   pub bad : eqb (countedNumber r) 13 ≡ not (fit (length log) used (length t))
   pub answer : Agrees log used t → r ≡ Count.Done (countsOf (mapOf log used) used)
-
--- ---- agreement itself
-
-pub record Tells (log : List ℕ) (used : ℕ) (t : List ℕ) (r : Bool) : Type 0 where
-  pub yes-so : r ≡ true → Agrees log used t
-  pub so-yes : Agrees log used t → r ≡ true

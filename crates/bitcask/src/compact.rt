@@ -15,25 +15,20 @@ use keydir::value_of;
 use recovery::Changed;
 use recovery::Used;
 use recovery::request::fits;
-ghost use mathlib.Core.Path.{_≡_};
-ghost use mathlib.Core.List.{[], _∷_};
 ghost use Prim.Native.Nat.{_+_, _*_, _≤_};
 ghost use lib.ListN.{length};
 ghost use Rattle.keycode.specs.Limits.{maxLog};
-ghost use Rattle.keycode.specs.Buffer.{put};
-ghost use Rattle.entry.specs.Entry.{bytesOf, sizeOf};
-ghost use Rattle.keydir.specs.Slots.{slotWords, slotAt, slotsOf, wordsOf};
+ghost use Rattle.entry.specs.Entry.{sizeOf};
+ghost use Rattle.keydir.specs.Slots.{slotWords, slotAt, slotsOf};
 ghost use Rattle.recovery.specs.Recover.{view};
-ghost use Rattle.bitcask.specs.Append.{slotOf, sizeAll};
-ghost use Rattle.bitcask.specs.Compaction.{entriesOf, entryIn, Moved};
+ghost use Rattle.bitcask.specs.Append.{sizeAll};
+ghost use Rattle.bitcask.specs.Compaction.{entriesOf, entryIn, MovedOne, Moved};
 ghost use Rattle.bitcask.specs.Promises.{Compacts};
 
 // The entry of the i-th slot into the target from index `to` on, and the slot renamed to it; gives the index after it.
 fn move_slot(log: &[u8], table: &mut [u32], i: usize, target: &mut [u8], to: usize) -> usize
     requires { ⌜ (slotWords * i + slotWords ≤ length (now table)) × (to + sizeOf (entryIn (now log) (slotAt (now table) i)) ≤ length (now target)) × (length (now target) ≤ maxLog) ⌝ }
-    ensures { λ r. ⌜ (r ≡ to + sizeOf (entryIn (now (log .entry)) (slotAt (now (table .entry)) i)))
-        × (now (table .exit) ≡ put (now (table .entry)) (slotWords * i) (wordsOf (slotOf to (entryIn (now (log .entry)) (slotAt (now (table .entry)) i)) ∷ [])))
-        × (now (target .exit) ≡ put (now (target .entry)) to (bytesOf (entryIn (now (log .entry)) (slotAt (now (table .entry)) i)))) ⌝ }
+    ensures { λ r. ⌜ MovedOne (now (table .entry)) (now (target .entry)) i to (entryIn (now (log .entry)) (slotAt (now (table .entry)) i)) (now (table .exit)) (now (target .exit)) r ⌝ }
 {
     let s = slot_at(table, i);
     let key = key_of(log, s);
@@ -54,7 +49,7 @@ fn move_slot(log: &[u8], table: &mut [u32], i: usize, target: &mut [u8], to: usi
 }
 
 // The entries of the first `count` slots into the target from its front on, and the slots renamed; gives the index after them.
-pub fn move_all(log: &[u8], table: &mut [u32], count: usize, target: &mut [u8]) -> usize
+fn move_all(log: &[u8], table: &mut [u32], count: usize, target: &mut [u8]) -> usize
     requires { ⌜ (slotWords * count ≤ length (now table)) × (sizeAll (entriesOf (view (now log) (slotsOf count (now table)))) ≤ length (now target)) × (length (now target) ≤ maxLog) ⌝ }
     ensures { λ r. ⌜ Moved (now (table .entry)) (now (target .entry)) (entriesOf (view (now (log .entry)) (slotsOf count (now (table .entry))))) (now (table .exit)) (now (target .exit)) r ⌝ }
 {

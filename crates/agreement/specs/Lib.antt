@@ -1,0 +1,3 @@
+-- The definitions of the yes/no on agreement, and what it promises.
+pub mod Told
+pub mod Promises
