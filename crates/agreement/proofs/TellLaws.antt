@@ -93,10 +93,10 @@ module _ (log : List ℕ) (used at : ℕ) {r : Read} (e : r ≡ entryAt log used
   ahead-stop f = rw (← e, f)
 
   pub set-near : (k v : ℕ) → r ≡ Set k v → at + 8 + k + v ≤ used
-  set-near k v f = let w = item-stands log used at (record { slot = record { place = suc at; klen = k; vlen = v }; gone = false }) (rw (← e, f)) in let n = w .near in omega arith
+  set-near k v f = let w = item-stands log used at (record { slot = record { place = at + 1; klen = k; vlen = v }; gone = false }) (rw (← e, f)) in let n = w .near in omega arith
 
   pub del-near : (k : ℕ) → r ≡ Del k → at + 8 + k ≤ used
-  del-near k f = let w = item-stands log used at (record { slot = record { place = suc at; klen = k; vlen = 0 }; gone = true }) (rw (← e, f)) in let n = w .near in omega arith
+  del-near k f = let w = item-stands log used at (record { slot = record { place = at + 1; klen = k; vlen = 0 }; gone = true }) (rw (← e, f)) in let n = w .near in omega arith
 
 seen-is : (o : Option Item) (a : Ahead) (s : Seen) → a ≡ aheadOf o → a ≡ Entry s → o ≡ some (itemSeen s)
 seen-is none a s e f = nope (cc)
