@@ -67,9 +67,6 @@ module _ (log : List ℕ) (used : ℕ) (k : List ℕ) where
 -- ---- the walk
 
 module _ (log : List ℕ) (used : ℕ) (ss : List Slot) (q : Sorted log ss) where
-  abbrev for : List ℕ → Option Slot
-  for k = slotFor log k ss
-
   -- the slots are what the entries from an offset on make of those before, and u are the slots of the entries to come
   record Facing (at : ℕ) (is : List Item) (before : List ℕ → Option Slot) (u : List Slot) : Type 0 where
     says : (k : List ℕ) → slotFor log k ss ≡ lastOf log k is (before k)

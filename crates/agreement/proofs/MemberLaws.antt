@@ -20,7 +20,7 @@ pub data Mem (x : Slot) : List Slot → Type 0 where
   mem-here : {xs : List Slot} → Mem x (x ∷ xs)
   mem-there : {y : Slot} {xs : List Slot} → Mem x xs → Mem x (y ∷ xs)
 
-pub mem-none : {x : Slot} {xs : List Slot} → Mem x xs → xs ≡ [] → ⊥
+mem-none : {x : Slot} {xs : List Slot} → Mem x xs → xs ≡ [] → ⊥
 mem-none mem-here e = nope (cc)
 mem-none (mem-there p) e = nope (cc)
 

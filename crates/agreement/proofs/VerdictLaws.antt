@@ -85,9 +85,6 @@ pub tell-unfit : (log : List ℕ) (used : ℕ) (t : List ℕ) {b : Bool} → b �
 tell-unfit log used t e f = never (λ g. let s = g .sound in nope (cc))
 
 module _ (log : List ℕ) (used : ℕ) (t : List ℕ) {n : ℕ} (c : n ≡ countOf t) where
-  abbrev ss : List Slot
-  ss = slotsOf n t
-
   -- what agreement gives each test
   module _ (g : Agrees log used t) where
     slots-are : slotsOf n t ≡ recovered log used

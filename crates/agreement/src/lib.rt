@@ -1,5 +1,5 @@
-// The yes/no on agreement, for any bytes and words: one walk of the log, and no second table. Only an entry whose key has no slot looks
-// ahead for a later entry of its key, so that the time is near linear but for logs of many keys that were deleted long after.
+// The yes/no on agreement, for any bytes and words: one walk of the log, and no second table. Only a value whose key has no slot looks
+// ahead, to the next entry of its key: near linear on most logs, quadratic at worst.
 use bitcask::read::value_part;
 use entry::Read;
 use entry::entry_at;
@@ -132,6 +132,7 @@ fn past(s: Slot) -> usize
     v.at + v.len
 }
 
+// Whether a slot's key is the one given.
 fn same_key(log: &[u8], s: Slot, key: &[u8]) -> bool
     ensures { λ r. ⌜ r ≡ isEqual (compareBytes (keyOf (now (log .entry)) s) (now (key .entry))) ⌝ }
 {
@@ -187,6 +188,7 @@ fn against(s: Slot, x: Slot, gone: bool) -> Judged
     Judged::Exact
 }
 
+// An entry against the slot of its key, or, where there is none, against the entries behind it.
 fn judge(log: &[u8], used: usize, table: &[u32], count: usize, e: Seen) -> Judged
     requires { ⌜ (e .slot .place + 7 + e .slot .klen + e .slot .vlen ≤ used) × (used ≤ maxLog) × (slotWords * count ≤ length (now table)) ⌝ }
     ensures { λ r. ⌜ r ≡ judgedIn (now (log .entry)) (slotsOf count (now (table .entry))) (itemSeen e) (items (now (log .entry)) used (e .slot .place + 7 + e .slot .klen + e .slot .vlen)) ⌝ }
@@ -208,6 +210,7 @@ fn judge(log: &[u8], used: usize, table: &[u32], count: usize, e: Seen) -> Judge
     }
 }
 
+// The entries one after the other, up to the used length.
 fn walk(log: &[u8], used: usize, table: &[u32], count: usize) -> Walked
     requires { ⌜ (used ≤ maxLog) × (slotWords * count ≤ length (now table)) ⌝ }
     ensures { λ r. ⌜ r ≡ walkedIn (now (log .entry)) used (slotsOf count (now (table .entry))) 0 (items (now (log .entry)) used 0) ⌝ }

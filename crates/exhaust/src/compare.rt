@@ -98,6 +98,7 @@ fn same_get(answer: Located, last: &[usize; 9], key: usize) -> bool {
 
 fn run_get(
     log: &[u8],
+    used: Used,
     table: &[u32],
     bytes: &[u8],
     key: usize,
@@ -105,7 +106,7 @@ fn run_get(
     case: Case,
     t: Tally,
 ) -> Tally {
-    let answer = get(log, Used { len: case.used }, table, bytes);
+    let answer = get(log, used, table, bytes);
     let mut u = judge(t, same_get(answer, last, key), case);
     u.gets = more(u.gets);
     u
@@ -121,13 +122,21 @@ fn same_step(answer: Stepped, last: &[usize; 9], key: usize) -> bool {
 }
 
 // Step n, after the key of the step before.
-fn run_step(log: &[u8], table: &[u32], n: usize, last: &[usize; 9], case: Case, t: Tally) -> Tally {
+fn run_step(
+    log: &[u8],
+    used: Used,
+    table: &[u32],
+    n: usize,
+    last: &[usize; 9],
+    case: Case,
+    t: Tally,
+) -> Tally {
     let given = 0 < n;
     let before = if given { nth(last, n - 1) } else { 3 };
     let bytes = clip(log, key_place(last, before), word_of(last, before, 1));
     let answer = scan_step(
         log,
-        Used { len: case.used },
+        used,
         table,
         Bound::Unbounded,
         log,
@@ -141,28 +150,49 @@ fn run_step(log: &[u8], table: &[u32], n: usize, last: &[usize; 9], case: Case, 
     u
 }
 
-fn run_steps(log: &[u8], table: &[u32], last: &[usize; 9], case: Case, t: Tally) -> Tally {
+fn run_steps(
+    log: &[u8],
+    used: Used,
+    table: &[u32],
+    last: &[usize; 9],
+    case: Case,
+    t: Tally,
+) -> Tally {
     let mut u = t;
     let mut n: usize = 0;
     while n <= live(last) {
-        u = run_step(log, table, n, last, case, u);
+        u = run_step(log, used, table, n, last, case, u);
         n += 1;
     }
     u
 }
 
-fn run_gets(log: &[u8], table: &[u32], last: &[usize; 9], case: Case, t: Tally) -> Tally {
+fn run_gets(
+    log: &[u8],
+    used: Used,
+    table: &[u32],
+    last: &[usize; 9],
+    case: Case,
+    t: Tally,
+) -> Tally {
     let a = [b'a'];
     let b = [b'b'];
-    let u = run_get(log, table, &log[..0], 0, last, case, t);
-    let v = run_get(log, table, &a, 1, last, case, u);
-    run_get(log, table, &b, 2, last, case, v)
+    let u = run_get(log, used, table, &log[..0], 0, last, case, t);
+    let v = run_get(log, used, table, &a, 1, last, case, u);
+    run_get(log, used, table, &b, 2, last, case, v)
 }
 
 fn is_full(answer: Changed) -> bool {
     match answer {
         Changed::Done(_) => false,
         Changed::Refused(r) => number_of(r) == 8,
+    }
+}
+
+fn used_after(answer: Changed) -> Used {
+    match answer {
+        Changed::Done(u) => u,
+        Changed::Refused(_) => Used { len: 0 },
     }
 }
 
@@ -178,6 +208,7 @@ pub fn run_open(log: &[u8], table: &mut [u32], case: Case, t: Tally) -> Tally {
         u.full = more(u.full);
         return u;
     }
-    u = run_gets(log, table, &last, case, u);
-    run_steps(log, table, &last, case, u)
+    let used = used_after(answer);
+    u = run_gets(log, used, table, &last, case, u);
+    run_steps(log, used, table, &last, case, u)
 }

@@ -1,4 +1,4 @@
-// The readings P6 to P9 of document 01, 'Bench readings', and openings that are refused, printed line by line: the log, the used length
+// The readings P6 to P9 of document 01, 'Bench readings', and openings at the edges, printed line by line: the log, the used length
 // and the table's size that were given, the answer, the live keys and the table's words.
 use crate::compare::number_of;
 use crate::show::show_bytes;
@@ -63,7 +63,7 @@ fn reading(name: &[u8], log: &[u8], used: usize, words: usize) {
     show_open(log, used, &mut table[..words]);
 }
 
-pub fn show_readings() {
+fn show_bench() {
     let log = [
         0u8,
         0,
@@ -91,8 +91,21 @@ pub fn show_readings() {
     reading(b"P7 ", &log[..10], 10, 6);
     reading(b"P8 ", &log, 20, 6);
     reading(b"P9 ", &lowest, 9, 6);
-    reading(b"P6 cut ", &log[..11], 10, 6);
-    reading(b"no slot ", &log[..11], 11, 0);
-    reading(b"used over the buffer ", &log[..11], 12, 6);
-    reading(b"words no multiple of three ", &log[..11], 11, 4);
+}
+
+fn show_edges() {
+    let log = [0u8, 0, 0, 1, 0, 0, 0, 2, b'a', b'x', b'y'];
+    let long_key = [255u8; 8];
+    let long_value = [0u8, 0, 0, 0, 127, 255, 255, 255];
+    reading(b"P6 cut ", &log, 10, 6);
+    reading(b"longest key ", &long_key, 8, 6);
+    reading(b"longest value ", &long_value, 8, 6);
+    reading(b"no slot ", &log, 11, 0);
+    reading(b"used over the buffer ", &log, 12, 6);
+    reading(b"words no multiple of three ", &log, 11, 4);
+}
+
+pub fn show_readings() {
+    show_bench();
+    show_edges();
 }

@@ -4,7 +4,7 @@ use Rattle.exhaust.proofs.compare.run_open.Statement.{statement}
 use Rattle.exhaust.proofs.compare.run_open.Tie as tie
 
 same-length-2 : tie.Need-same-length-2
-same-length-2 c = c .before .before .before .before .before .before .before .before .before .before .before .before .before .before .before .before .before .«open» .kept .1 .1 .0
+same-length-2 c = c .before .before .before .before .before .before .before .before .before .before .before .before .before .before .before .before .before .before .«open» .kept .1 .1 .0
 
 pub run-open-spec : {M : Type 1} → statement M
 run-open-spec =
@@ -21,6 +21,7 @@ run-open-spec =
     (λ c κs. search needs)
     (λ c. search needs)
     (λ c. search needs)
+    (λ c κs. search needs)
     (λ c κs. search needs)
     (λ c κs. search needs)
     same-length-2

@@ -5,10 +5,10 @@ use Rattle.exhaust.proofs.compare.run_steps.Statement.{statement}
 use Rattle.exhaust.proofs.compare.run_steps.Tie as tie
 
 abbrev Inv-loop : tie.InvT-loop
-Inv-loop log table last case u₀ n₀ u n = Unit {0}
+Inv-loop log used table last case u₀ n₀ u n = Unit {0}
 
 abbrev μ-loop : tie.MeasureT-loop
-μ-loop log table last case u₀ n₀ u n = 4 - n
+μ-loop log used table last case u₀ n₀ u n = 4 - n
 
 loop-holds : tie.Need-loop-holds Inv-loop μ-loop
 loop-holds c = tt
