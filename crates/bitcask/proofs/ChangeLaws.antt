@@ -95,7 +95,7 @@ slots-fit log used t e = go e (rw (slots-length (countOf t) t) (count-within t))
     go (del k) h = cut-within t (placeOf log k (slotsOf (countOf t) t)) (slotsOf (countOf t) t) h (place-among log k (slotsOf (countOf t) t))
 
 -- where a slot is free for what it wants, an entry does to any slots what recovery does
-after-slots : (log : List ℕ) (used : ℕ) (t : List ℕ) (e : Entry) → freshFor log t e ≤ freeIn t
+pub after-slots : (log : List ℕ) (used : ℕ) (t : List ℕ) (e : Entry) → freshFor log t e ≤ freeIn t
     → slotsAfter log used t e (slotsOf (countOf t) t) ≡ stepAt (itemFor used e .gone) (itemFor used e .slot) (placeOf log (entryKey e) (slotsOf (countOf t) t)) (slotsOf (countOf t) t)
 after-slots log used t (set k v) h = entered-room t (itemFor used (set k v) .slot) (placeOf log k (slotsOf (countOf t) t)) (slotsOf (countOf t) t) (go (placeOf log k (slotsOf (countOf t) t)) refl)
   where
@@ -109,13 +109,13 @@ after-slots log used t (del k) h = refl
 -- ---- under agreement: the keys that an entry leaves in the map
 
 module _ (log : List ℕ) (used : ℕ) (t : List ℕ) (e : Entry) (g : Agrees log used t) (small : length log ≤ maxLog) (room : used + sizeOf e ≤ length log) where
-  after-length : length (after e (mapOf log used)) ≡ length (stepAt (itemFor used e .gone) (itemFor used e .slot) (placeOf log (entryKey e) (slotsOf (countOf t) t)) (slotsOf (countOf t) t))
+  pub after-length : length (after e (mapOf log used)) ≡ length (stepAt (itemFor used e .gone) (itemFor used e .slot) (placeOf log (entryKey e) (slotsOf (countOf t) t)) (slotsOf (countOf t) t))
   after-length =
       sym (sym (map-length (put log used (bytesOf e)) (used + sizeOf e)) ∙ ap length (append-map log used e small room (g .clean)))
       ∙ ap length (append-slots log used e small room (g .clean))
       ∙ rw (agrees-place log used t g (entryKey e), agrees-slots log used t g)
 
-count-set : (log : List ℕ) (used : ℕ) (t k v : List ℕ) → Agrees log used t → length log ≤ maxLog → used + sizeOf (set k v) ≤ length log
+pub count-set : (log : List ℕ) (used : ℕ) (t k v : List ℕ) → Agrees log used t → length log ≤ maxLog → used + sizeOf (set k v) ≤ length log
     → length (after (set k v) (mapOf log used)) ≡ countOf t + freshIn log k (slotsOf (countOf t) t)
 unfolding freshIn
 count-set log used t k v g small room =

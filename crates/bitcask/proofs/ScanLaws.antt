@@ -62,7 +62,7 @@ module _ (log key : List ℕ) (ss : List Slot) (s : Sorted log ss) where
   rise = ranks-rise (placeOf log key ss)
 
   module _ (j : ℕ) (h : j < length ss) where
-    low-test : (b : Bound) → admitsLow b (orderAt log key ss j) ≡ leb (fromBound b log key ss) j
+    pub low-test : (b : Bound) → admitsLow b (orderAt log key ss j) ≡ leb (fromBound b log key ss) j
     low-test Included = go (where-is j h)
       where
         go : Where (orderAt log key ss j) (below log key ss) (upto log key ss) j → admitsLow Included (orderAt log key ss j) ≡ leb (below log key ss) j
@@ -77,7 +77,7 @@ module _ (log key : List ℕ) (ss : List Slot) (s : Sorted log ss) where
         go (over e l) = rw (e, le-leb (upto log key ss) j l)
     low-test Unbounded = sym (le-leb 0 j (omega arith))
 
-    high-test : (b : Bound) → admitsHigh b (orderAt log key ss j) ≡ ltb j (uptoBound b log key ss)
+    pub high-test : (b : Bound) → admitsHigh b (orderAt log key ss j) ≡ ltb j (uptoBound b log key ss)
     high-test Included = go (where-is j h)
       where
         go : Where (orderAt log key ss j) (below log key ss) (upto log key ss) j → admitsHigh Included (orderAt log key ss j) ≡ ltb j (upto log key ss)

@@ -54,7 +54,7 @@ pub record Sound (size used words : ℕ) : Type 0 where
   pub within : used ≤ size
   pub whole : words % slotWords ≡ 0
 
-both : (a b : Bool) → pick a b false ≡ true → (a ≡ true) × (b ≡ true)
+pub both : (a b : Bool) → pick a b false ≡ true → (a ≡ true) × (b ≡ true)
 both true b e = (refl, e)
 both false b e = nope (cc)
 

@@ -1,0 +1,114 @@
+-- The checks that come first, by what the code finds, in the words of the map, and their numbers. Assumes nothing.
+use Prim.Native.Nat.{ℕ, _-_, _^_}
+use mathlib.Core.Path.{_≡_, refl, sym, ap, _∙_}
+use mathlib.Core.Bool.{Bool, true, false, not}
+use mathlib.Core.List.{List}
+use lib.Dec.{eqb}
+use lib.ListN.{length, take}
+use borrow.Author.Tests.{eq-eqb, ne-eqb}
+use Rattle.keycode.specs.Tests.{pick}
+use Rattle.keycode.specs.declared.refusal.Refusal.the-variants.{NotOpen, BadRequest}
+use Rattle.keycode.proofs.Basics.{nope}
+use Rattle.keydir.specs.declared.slots.Slot.{Slot}
+use Rattle.keydir.specs.Slots.{slotsOf}
+use Rattle.keydir.specs.Place.{countOf}
+use Rattle.recovery.specs.Recover.{mapOf}
+use Rattle.recovery.specs.Agree.{fit, Agrees}
+use Rattle.bitcask.specs.declared.append.Check.the-variants.{Fine, Refused}
+use Rattle.handle.specs.declared.code.Code.{Code}
+use Rattle.handle.specs.declared.handle.Handle.{Handle}
+use Rattle.handle.specs.Codes.{Codes}
+use Rattle.handle.specs.Handles.{soundHandle}
+use Rattle.txn.specs.Looks.{liveOf, liveIn}
+use Rattle.txn.specs.Checks.{activeKey, ownVersion, openBy, admitBy, checkNumber}
+use Rattle.txn.proofs.LookLaws.{live-agrees}
+
+-- ---- open
+
+module _ (h : Handle) (live : Bool) where
+  pub open-read : h .«read_only» ≡ true → true ≡ openBy h live
+  unfolding openBy
+  open-read r = rw r
+
+  module _ (r : h .«read_only» ≡ false) where
+    pub open-zero : h .version ≡ 0 → false ≡ openBy h live
+    unfolding openBy ownVersion
+    open-zero e = rw (r, eq-eqb (h .version) 0 e)
+
+    module _ (n : h .version ≡ 0 → ⊥) where
+      pub open-last : h .version ≡ 2 ^ 64 - 1 → false ≡ openBy h live
+      unfolding openBy ownVersion
+      open-last e = rw (r, ne-eqb (h .version) 0 n, eq-eqb (h .version) (2 ^ 64 - 1) e)
+
+      pub open-live : (h .version ≡ 2 ^ 64 - 1 → ⊥) → live ≡ openBy h live
+      unfolding openBy ownVersion
+      open-live m = rw (r, ne-eqb (h .version) 0 n, ne-eqb (h .version) (2 ^ 64 - 1) m)
+
+-- the look-up of the handle's key by its code
+pub open-look : (log : List ℕ) (ss : List Slot) (h : Handle) (c : Code) (b : Bool) → h .«read_only» ≡ false → (h .version ≡ 0 → ⊥) → (h .version ≡ 2 ^ 64 - 1 → ⊥) → Codes c (activeKey h)
+    → b ≡ liveOf log (take (c .len) (c .bytes)) ss → b ≡ openBy h (liveOf log (activeKey h) ss)
+open-look log ss h c b r n m w e = e ∙ rw (w .says) (open-live h (liveOf log (activeKey h) ss) r n m)
+
+-- the code's count is the table's
+pub open-counted : (log t : List ℕ) (h : Handle) (n : ℕ) (b : Bool) → n ≡ countOf t → b ≡ openBy h (liveOf log (activeKey h) (slotsOf n t))
+    → openBy h (liveOf log (activeKey h) (slotsOf (countOf t) t)) ≡ b
+open-counted log t h n b en eb = sym (eb ∙ rw en)
+
+-- the whole test of a handle against a map
+pub open-agrees : (log : List ℕ) (used : ℕ) (t : List ℕ) (h : Handle) → Agrees log used t
+    → openBy h (liveOf log (activeKey h) (slotsOf (countOf t) t)) ≡ openBy h (liveIn (activeKey h) (mapOf log used))
+open-agrees log used t h g = ap (openBy h) (live-agrees log used t g (activeKey h))
+
+-- ---- admit
+
+module _ (fits sound active : Bool) where
+  pub admit-sizes : fits ≡ false → Refused BadRequest ≡ admitBy fits sound active
+  unfolding admitBy
+  admit-sizes f = rw f
+
+  module _ (f : fits ≡ true) where
+    pub admit-handle : sound ≡ false → Refused BadRequest ≡ admitBy fits sound active
+    unfolding admitBy
+    admit-handle s = rw (f, s)
+
+    module _ (s : sound ≡ true) where
+      pub admit-closed : active ≡ false → Refused NotOpen ≡ admitBy fits sound active
+      unfolding admitBy
+      admit-closed a = rw (f, s, a)
+
+      pub admit-open : active ≡ true → Fine ≡ admitBy fits sound active
+      unfolding admitBy
+      admit-open a = rw (f, s, a)
+
+-- its numbers, each in its own case
+pub admit-bad : (fits sound active : Bool) → eqb (checkNumber (admitBy fits sound active)) 13 ≡ not (pick fits sound false)
+unfolding admitBy
+admit-bad true true true = refl
+admit-bad true true false = refl
+admit-bad true false active = refl
+admit-bad false sound active = refl
+
+pub admit-not-open : (fits sound active : Bool) → eqb (checkNumber (admitBy fits sound active)) 3 ≡ pick fits (pick sound (not active) false) false
+unfolding admitBy
+admit-not-open true true true = refl
+admit-not-open true true false = refl
+admit-not-open true false active = refl
+admit-not-open false sound active = refl
+
+-- under agreement the sizes are right, and the rest is asked of the map
+pub admit-agrees : (log : List ℕ) (used : ℕ) (t : List ℕ) (h : Handle) → Agrees log used t
+    → admitBy (fit (length log) used (length t)) (soundHandle h) (openBy h (liveOf log (activeKey h) (slotsOf (countOf t) t))) ≡ admitBy true (soundHandle h) (openBy h (liveIn (activeKey h) (mapOf log used)))
+admit-agrees log used t h g = rw (g .sound, open-agrees log used t h g)
+
+-- what a check that passed says
+pub record Admitted (fits sound active : Bool) : Type 0 where
+  pub sizes : fits ≡ true
+  pub handle : sound ≡ true
+  pub opened : active ≡ true
+
+pub admit-fine : (fits sound active : Bool) → Fine ≡ admitBy fits sound active → Admitted fits sound active
+unfolding admitBy
+admit-fine true true true e = record { sizes = refl; handle = refl; opened = refl }
+admit-fine true true false e = nope (cc)
+admit-fine true false active e = nope (cc)
+admit-fine false sound active e = nope (cc)

@@ -1,0 +1,55 @@
+-- Which keys begin with the prefixes of records: those of a tag, and of a tag and a version. Assumes nothing.
+use Prim.Native.Nat.{ℕ, _^_, _<_}
+use mathlib.Core.Path.{_≡_, refl, sym, ap, _∙_}
+use mathlib.Core.Bool.{Bool, true, false}
+use mathlib.Core.List.{List, [], _∷_, _++_}
+use lib.Dec.{eqb}
+use lib.ListN.{take}
+use lib.Seq.{take-at}
+use borrow.Author.Tests.{eqb-true, eq-eqb}
+use Rattle.keycode.specs.Tests.{pick}
+use Rattle.keycode.specs.Number.{be, num}
+use Rattle.keycode.specs.Keys.{Fields, nextVersion, txnActive, txnActiveSnapshot, txnWrite, version, unversioned, tagOf, encode}
+use Rattle.keycode.specs.Strings.{escape}
+use Rattle.keycode.proofs.NumberLaws.{length-be, num-be}
+use Rattle.keycode.proofs.KeyLaws.{Sound}
+use Rattle.txn.specs.Ranges.{begins, writePrefix}
+use Rattle.txn.proofs.RangeLaws.{begins-append, begins-split, same-tests}
+
+-- the keys of a tag
+pub tag-begins : (t : ℕ) (k : Fields) → begins (t ∷ []) (encode k) ≡ eqb (tagOf k) t
+unfolding begins
+tag-begins t k = go (eqb (tagOf k) t)
+  where
+    go : (b : Bool) → pick b true false ≡ b
+    go true = refl
+    go false = refl
+
+-- the front of two runs whose first eight bytes are numbers
+number-front : (v w : ℕ) (s t : List ℕ) → v < 256 ^ 8 → w < 256 ^ 8 → be 8 w ++ s ≡ be 8 v ++ t → w ≡ v
+number-front v w s t h k e =
+    sym (num-be 8 w k) ∙ ap num (sym (take-at (be 8 w) s 8 (length-be 8 w)) ∙ ap (take 8) e ∙ take-at (be 8 v) t 8 (length-be 8 v)) ∙ num-be 8 v h
+
+number-begins : (v w : ℕ) (s : List ℕ) → v < 256 ^ 8 → w < 256 ^ 8 → begins (be 8 v) (be 8 w ++ s) ≡ eqb w v
+number-begins v w s h k =
+    same-tests (begins (be 8 v) (be 8 w ++ s)) (eqb w v)
+    (λ e. let r = begins-split (be 8 v) (be 8 w ++ s) e in eq-eqb w v (number-front v w s (r .0) h k (r .1)))
+    (λ e. ap (λ (x : ℕ). begins (be 8 v) (be 8 x ++ s)) (eqb-true w v e) ∙ begins-append (be 8 v) s)
+
+-- whether a key is that of a write of v
+abbrev pub writtenBy : ℕ → Fields → Bool
+writtenBy v nextVersion = false
+writtenBy v (txnActive w) = false
+writtenBy v (txnActiveSnapshot w) = false
+writtenBy v (txnWrite w s) = eqb w v
+writtenBy v (version s w) = false
+writtenBy v (unversioned s) = false
+
+pub write-begins : (v : ℕ) (k : Fields) → v < 256 ^ 8 → Sound k → begins (writePrefix v) (encode k) ≡ writtenBy v k
+unfolding begins
+write-begins v nextVersion h k = refl
+write-begins v (txnActive w) h k = refl
+write-begins v (txnActiveSnapshot w) h k = refl
+write-begins v (txnWrite w s) h k = number-begins v w (escape s) h k
+write-begins v (version s w) h k = refl
+write-begins v (unversioned s) h k = refl

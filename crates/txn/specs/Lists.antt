@@ -1,0 +1,76 @@
+-- Lists of entries, appended one after the other: the store then, the room left, the keys that are new. Assumes nothing.
+use Prim.Native.Nat.{ℕ, _+_, _≤_}
+use mathlib.Core.Path.{_≡_}
+use mathlib.Core.Bool.{Bool, true, false}
+use mathlib.Core.List.{List, [], _∷_}
+use lib.ListN.{length}
+use Rattle.entry.specs.Entry.{Entry, set, del, entryKey, entryValue}
+use Rattle.keydir.specs.declared.slots.Slot.{Slot}
+use Rattle.keydir.specs.Place.{All}
+use Rattle.recovery.specs.Map.{Pair, after}
+use Rattle.recovery.specs.declared.request.Changed.{Changed}
+use Rattle.recovery.specs.declared.request.Changed.the-variants as Change
+use Rattle.bitcask.specs.declared.append.Room.{Room}
+use Rattle.bitcask.specs.declared.append.Check.{Check}
+use Rattle.bitcask.specs.declared.append.Check.the-variants.{Fine, Refused}
+use Rattle.bitcask.specs.Append.{State, appended, roomAfter, freshIn}
+use Rattle.txn.specs.Looks.{liveIn}
+
+-- ---- the store
+
+unfoldable pub appendedAll : State → List Entry → State
+appendedAll s [] = s
+appendedAll s (e ∷ es) = appendedAll (appended s e) es
+
+-- the room that they leave
+unfoldable pub roomAll : Room → List Entry → Room
+roomAll room [] = room
+roomAll room (e ∷ es) = roomAll (roomAfter room (length (entryKey e)) (length (entryValue e))) es
+
+-- ---- what lists the calls append
+
+-- sets alone
+pub data Sets : List Entry → Type 0 where
+  sets-none : Sets []
+  sets-more : {k v : List ℕ} {es : List Entry} → Sets es → Sets (set k v ∷ es)
+
+-- tombstones alone
+pub data Dels : List Entry → Type 0 where
+  dels-none : Dels []
+  dels-more : {k : List ℕ} {es : List Entry} → Dels es → Dels (del k ∷ es)
+
+-- no key twice
+pub data Apart : List Entry → Type 0 where
+  apart-none : Apart []
+  apart-more : {e : Entry} {es : List Entry} → All (λ (x : Entry). entryKey e ≡ entryKey x → ⊥) es → Apart es → Apart (e ∷ es)
+
+-- ---- the keys that are new
+
+-- of one key: whether it wants a slot
+abbrev pub newBy : Bool → ℕ
+newBy true = 0
+newBy false = 1
+
+unfoldable pub newIn : List ℕ → List Pair → ℕ
+newIn key m = newBy (liveIn key m)
+
+-- of a list, each against the map as it was
+unfoldable pub newAll : List Entry → List Pair → ℕ
+newAll [] m = 0
+newAll (e ∷ es) m = newIn (entryKey e) m + newAll es m
+
+-- the same of slots, as the code counts them
+unfoldable pub freshAll : List ℕ → List Entry → List Slot → ℕ
+freshAll log [] ss = 0
+freshAll log (e ∷ es) ss = freshIn log (entryKey e) ss + freshAll log es ss
+
+-- the map has at most so many keys after each entry
+pub data Fitting (cap : ℕ) : List Entry → List Pair → Type 0 where
+  fitting-none : {m : List Pair} → Fitting cap [] m
+  fitting-more : {e : Entry} {es : List Entry} {m : List Pair} → length (after e m) ≤ cap → Fitting cap es (after e m) → Fitting cap (e ∷ es) m
+
+-- ---- 7 and 8 of a list: what the engine's rule answers for it, the used length forgotten
+
+abbrev pub checkOf : Changed → Check
+checkOf (Change.Done u) = Fine
+checkOf (Change.Refused r) = Refused r
