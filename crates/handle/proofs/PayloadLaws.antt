@@ -27,7 +27,7 @@ use Rattle.handle.proofs.HandleLaws.{set-part, made-all, made-sound}
 
 -- ---- read after write
 
-set-long : (vs : List ℕ) → length (setBytes vs) ≡ 8 * length vs
+pub set-long : (vs : List ℕ) → length (setBytes vs) ≡ 8 * length vs
 unfolding setBytes
 set-long [] = refl
 set-long (v ∷ vs) = simp (length-append, length-be) (omega (arith, set-long vs))

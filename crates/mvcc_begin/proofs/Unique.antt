@@ -1,0 +1,47 @@
+-- Two results that a promise admits, where the table agrees with the log, are one. Assumes nothing.
+use Prim.Native.Nat.{ℕ, zero, suc, _+_}
+use mathlib.Core.Path.{_≡_, refl, sym, ap, _∙_, subst}
+use mathlib.Core.List.{List}
+use Rattle.keycode.specs.Tests.{ifDone}
+use Rattle.keycode.specs.Buffer.{put}
+use Rattle.recovery.specs.Agree.{Agrees}
+use Rattle.recovery.proofs.AgreeLaws.{agrees-unique}
+use Rattle.bitcask.specs.Append.{sizeAll, bytesAll}
+use Rattle.mvcc_begin.specs.declared.answers.Begun.{Begun}
+use Rattle.mvcc_begin.specs.declared.status.Stated.{Stated}
+use Rattle.mvcc_begin.specs.Plan.{planOf}
+use Rattle.mvcc_begin.specs.Promises.{begunNumber, BeginsReading, Begins, BeginsAsOf, States}
+
+pub reading-unique : {log : List ℕ} {used : ℕ} {t : List ℕ} {r r′ : Begun} → Agrees log used t → BeginsReading log used t r → BeginsReading log used t r′ → r ≡ r′
+reading-unique g w w′ = w .answer g ∙ sym (w′ .answer g)
+
+pub as-of-unique : {log : List ℕ} {used : ℕ} {t : List ℕ} {v : ℕ} {r r′ : Begun} → Agrees log used t → BeginsAsOf log used t v r → BeginsAsOf log used t v r′ → r ≡ r′
+as-of-unique g w w′ = w .answer g ∙ sym (w′ .answer g)
+
+pub states-unique : {log : List ℕ} {used : ℕ} {t : List ℕ} {r r′ : Stated} → Agrees log used t → States log used t r → States log used t r′ → r ≡ r′
+states-unique g w w′ = w .answer g ∙ sym (w′ .answer g)
+
+module _ {log : List ℕ} {used : ℕ} {t : List ℕ} {r r′ : Begun} {l l′ x x′ : List ℕ} (g : Agrees log used t) (w : Begins log used t r l x) (w′ : Begins log used t r′ l′ x′) where
+  pub begins-answer : r ≡ r′
+  begins-answer = w .answer g ∙ sym (w′ .answer g)
+
+  pub begins-log : l ≡ l′
+  begins-log = w .bytes ∙ ap (λ (y : Begun). ifDone (begunNumber y) (put log used (bytesAll (planOf (y .handle)))) log) begins-answer ∙ sym (w′ .bytes)
+
+  pub begins-table : x ≡ x′
+  begins-table = go (begunNumber r) refl
+    where
+      same : begunNumber r′ ≡ begunNumber r
+      same = ap begunNumber (sym begins-answer)
+
+      stays : {n m : ℕ} {a b : List ℕ} → a ≡ ifDone n a b → n ≡ suc m → a ≡ b
+      stays p h = p ∙ rw h
+
+      ends : used + sizeAll (planOf (r .handle)) ≡ used + sizeAll (planOf (r′ .handle))
+      ends = ap (λ (y : Begun). used + sizeAll (planOf (y .handle))) begins-answer
+
+      go : (n : ℕ) → begunNumber r ≡ n → x ≡ x′
+      go zero q =
+          agrees-unique (subst (λ (u : ℕ). Agrees l′ u x) ends (subst (λ (y : List ℕ). Agrees y (used + sizeAll (planOf (r .handle))) x) begins-log (w .again g q)))
+          (w′ .again g (same ∙ q)) (w .long ∙ sym (w′ .long))
+      go (suc n) q = stays (w .words) q ∙ sym (stays (w′ .words) (same ∙ q))

@@ -1,0 +1,61 @@
+-- What a begin appends, and how it is judged. Document 01, 'Transactions'. Assumes nothing.
+use Prim.Native.Nat.{ℕ, zero, suc, _+_, _-_, _/_}
+use mathlib.Core.Path.{_≡_}
+use mathlib.Core.List.{List, [], _∷_, _++_}
+use lib.ListN.{length}
+use Rattle.keycode.specs.Keys.{encode, nextVersion, txnActive, txnActiveSnapshot}
+use Rattle.entry.specs.Entry.{Entry, set}
+use Rattle.keydir.specs.Slots.{slotWords, slotsOf}
+use Rattle.recovery.specs.declared.request.Changed.the-variants as Change
+use Rattle.bitcask.specs.declared.append.Room.the-variants.{Left}
+use Rattle.bitcask.specs.declared.append.Check.{Check}
+use Rattle.bitcask.specs.declared.append.Check.the-variants.{Fine, Refused}
+use Rattle.bitcask.specs.Append.{State, judge, sizeAll}
+use Rattle.handle.specs.declared.handle.Handle.{Handle}
+use Rattle.handle.specs.Handles.{setOf, blankHandle}
+use Rattle.handle.specs.Payloads.{versionBytes, setBytes}
+use Rattle.txn.specs.Lists.{appendedAll, roomAll, freshAll}
+use Rattle.mvcc_begin.specs.declared.answers.Begun.{Begun}
+
+-- ---- the entries of version v
+
+abbrev pub nextEntry : ℕ → Entry
+nextEntry v = set (encode nextVersion) (versionBytes (v + 1))
+
+abbrev pub ownEntry : ℕ → Entry
+ownEntry v = set (encode (txnActive v)) []
+
+-- the snapshot with the payload p, where so many versions are open
+unfoldable pub snapshotBy : ℕ → ℕ → List ℕ → List Entry
+snapshotBy zero v p = []
+snapshotBy (suc n) v p = set (encode (txnActiveSnapshot v)) p ∷ []
+
+unfoldable pub planBy : ℕ → ℕ → List ℕ → List Entry
+planBy n v p = nextEntry v ∷ (snapshotBy n v p ++ (ownEntry v ∷ []))
+
+-- of a version, and those open
+abbrev pub beginPlan : ℕ → List ℕ → List Entry
+beginPlan v vs = planBy (length vs) v (setBytes vs)
+
+-- of the handle that a begin gives
+abbrev pub planOf : Handle → List Entry
+planOf h = beginPlan (h .version) (setOf h)
+
+-- ---- as the code does it, for any table
+
+unfoldable pub judgeAll : State → List Entry → Check
+judgeAll s es = judge (roomAll (Left (length (s .log) - s .used)) es) (freshAll (s .log) es (slotsOf (s .count) (s .table))) (length (s .table) / slotWords - s .count)
+
+abbrev pub byCheck : {A : Type 0} → Check → A → A → A
+byCheck Fine a b = a
+byCheck (Refused r) a b = b
+
+abbrev pub startedBy : Check → ℕ → Handle → Begun
+startedBy Fine used h = record { answer = Change.Done (record { len = used }); handle = h }
+startedBy (Refused r) used h = record { answer = Change.Refused r; handle = blankHandle }
+
+-- the entries judged, and appended where they fit
+pub record Starts (s : State) (es : List Entry) (h : Handle) (r : Begun) (log′ t′ : List ℕ) : Type 0 where
+  pub answer : r ≡ startedBy (judgeAll s es) (s .used + sizeAll es) h
+  pub log : log′ ≡ byCheck (judgeAll s es) (appendedAll s es .log) (s .log)
+  pub table : t′ ≡ byCheck (judgeAll s es) (appendedAll s es .table) (s .table)

@@ -1,0 +1,6 @@
+-- The laws of a transaction's scan steps.
+pub mod RowLaws
+pub mod WalkLaws
+pub mod BoundLaws
+pub mod StepLaws
+pub mod Unique

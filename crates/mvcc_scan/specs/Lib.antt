@@ -1,0 +1,5 @@
+-- The definitions of a transaction's scan steps.
+pub mod Rows
+pub mod Walks
+pub mod Bounds
+pub mod Promises

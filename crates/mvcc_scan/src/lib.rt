@@ -1,0 +1,5 @@
+// The scan steps of a transaction. Part of toydb's storage/mvcc.rs. Document 01, 'Transactions'.
+pub mod bounds;
+pub mod rows;
+pub mod scan;
+pub mod walk;
