@@ -14,6 +14,7 @@ use Rattle.keycode.specs.Number.{be, num}
 use Rattle.keycode.specs.Buffer.{put}
 use Rattle.keycode.specs.declared.refusal.Refusal.{Refusal}
 use Rattle.keycode.specs.declared.refusal.Refusal.the-variants.{TooManyOpen, BadStore}
+use Rattle.keycode.proofs.Basics.{nope}
 use Rattle.keycode.proofs.NumberLaws.{num-be, length-be}
 use Rattle.keycode.proofs.BufferLaws.{Laying, lay-front, lay-more, lay-end, lay-room}
 use Rattle.handle.specs.declared.handle.Handle.{Handle}
@@ -86,6 +87,15 @@ value-gone [] e h = absurd (omega arith)
 value-gone (zero ∷ []) e h = refl
 value-gone (zero ∷ y ∷ b) e h = absurd (omega arith)
 value-gone (suc t ∷ b) e h = absurd (omega arith)
+
+-- a value starts within its payload
+pub skip-within : (b : List ℕ) (k : ℕ) → valueIn b ≡ Value k → k ≤ length b
+unfolding valueIn
+skip-within [] k e = nope (cc)
+skip-within (zero ∷ []) k e = nope (cc)
+skip-within (zero ∷ y ∷ r) k e = nope (cc)
+skip-within (suc zero ∷ r) k e = let z : 1 ≡ k = cc in omega arith
+skip-within (suc (suc t) ∷ r) k e = nope (cc)
 
 pub value-left : (b : List ℕ) → 1 ≤ length b → getD b 0 0 ≡ 0 → (length b ≡ 1 → ⊥) → Bad ≡ valueIn b
 unfolding valueIn

@@ -94,14 +94,6 @@ module _ (log log′ : List ℕ) where
   abbrev pub Kept : Slot → Type 0
   Kept s = keyOf log′ s ≡ keyOf log s
 
-  over-kept : (k : List ℕ) (ss : List Slot) → All Kept ss → All (Over log k) ss → All (Over log′ k) ss
-  over-kept k [] a q = all-none
-  over-kept k (s ∷ ss) (all-more e a) (all-more p q) = all-more {x = s} (rw e p) (over-kept k ss a q)
-
-  pub sorted-kept : (ss : List Slot) → All Kept ss → Sorted log ss → Sorted log′ ss
-  sorted-kept [] a q = sorted-none
-  sorted-kept (s ∷ ss) (all-more e a) (sorted-more p q) = sorted-more {s = s} {ss = ss} (rw e (over-kept (keyOf log s) ss a p)) (sorted-kept ss a q)
-
   pub place-kept : (key : List ℕ) (ss : List Slot) → All Kept ss → placeIn log′ key ss ≡ placeIn log key ss
   unfolding placeIn
   place-kept key [] a = refl

@@ -102,13 +102,6 @@ module _ (t : List ℕ) (f : Found) (ss : List Slot) (room : slotWords * length 
       cut-on (At i) q = rw (remove-length i ss q) (omega arith)
       cut-on (Before i) q = room
 
-module _ {t : List ℕ} {n : ℕ} {ss : List Slot} {t′ : List ℕ} {r : ℕ} (b : Becomes t n ss t′ r) where
-  pub becomes-slots : slotsOf r t′ ≡ ss
-  becomes-slots = rw (b .count, b .words) (laid-slots n ss t)
-
-  pub becomes-length : slotWords * n ≤ length t → slotWords * length ss ≤ length t → length t′ ≡ length t
-  becomes-length h k = ap length (b .words) ∙ laid-length n ss t h k
-
 -- ---- tables of slots and zeros
 
 zeros-drop : (k n : ℕ) → drop k (replicate {A = ℕ} n 0) ≡ replicate {A = ℕ} (n - k) 0

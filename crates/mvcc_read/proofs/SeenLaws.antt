@@ -1,5 +1,5 @@
 -- What a record says, and the walk down a range, by what the code has learnt. Assumes nothing.
-use Prim.Native.Nat.{ℕ, zero, suc, _+_, _-_, _^_, _≤_, _<_}
+use Prim.Native.Nat.{ℕ, suc, _+_, _-_, _^_, _≤_, _<_}
 use mathlib.Core.Path.{_≡_, refl, sym, ap, _∙_}
 use mathlib.Core.Bool.{Bool, true, false}
 use mathlib.Core.List.{List, [], _∷_, _++_}
@@ -14,7 +14,6 @@ use Rattle.keycode.specs.declared.refusal.Refusal.{Refusal}
 use Rattle.keycode.specs.declared.keys.Key.{Key}
 use Rattle.keycode.specs.declared.keys.Decoded.{Decoded}
 use Rattle.keycode.specs.declared.keys.Decoded.the-variants.{Whole, Refused}
-use Rattle.keycode.proofs.Basics.{nope}
 use Rattle.keydir.specs.declared.slots.Slot.{Slot}
 use Rattle.keydir.specs.Slots.{freeSlot, slotAt, slotsOf, keyOf, valueOf}
 use Rattle.keydir.proofs.SlotLaws.{slots-length, slot-at-is}
@@ -26,6 +25,7 @@ use Rattle.handle.specs.declared.payload.ValueRead.{ValueRead}
 use Rattle.handle.specs.declared.payload.ValueRead.the-variants as Payload
 use Rattle.handle.specs.Handles.{sees}
 use Rattle.handle.specs.Payloads.{valueIn}
+use Rattle.handle.proofs.PayloadLaws.{skip-within}
 use Rattle.txn.specs.Ranges.{slice}
 use Rattle.mvcc_read.specs.declared.seen.Seen.{Seen}
 use Rattle.mvcc_read.specs.declared.seen.Seen.the-variants.{Hidden, Gone, Bad, Value}
@@ -40,15 +40,6 @@ pub version-none : {got d : Decoded} (r : Refusal) → got ≡ d → got ≡ Ref
 version-none r p q = ap versionOf (sym q ∙ p)
 
 -- ---- a payload
-
--- a value starts within its payload
-skip-within : (b : List ℕ) (k : ℕ) → valueIn b ≡ Payload.Value k → k ≤ length b
-unfolding valueIn
-skip-within [] k e = nope (cc)
-skip-within (zero ∷ []) k e = nope (cc)
-skip-within (zero ∷ y ∷ r) k e = nope (cc)
-skip-within (suc zero ∷ r) k e = let z : 1 ≡ k = cc in omega arith
-skip-within (suc (suc t) ∷ r) k e = nope (cc)
 
 module _ (log : List ℕ) (s : Slot) {b : List ℕ} {got : ValueRead} (eb : b ≡ valueOf log s) (eg : got ≡ valueIn b) where
   says-got : valueSays log s ≡ saysBy (valuePart s) got

@@ -1,5 +1,5 @@
 -- What a record is, by what the code has learnt of it. Assumes nothing.
-use Prim.Native.Nat.{ℕ, zero, suc, _+_, _-_, _^_, _≤_, _<_}
+use Prim.Native.Nat.{ℕ, _+_, _-_, _^_, _≤_, _<_}
 use mathlib.Core.Path.{_≡_, refl, sym, ap, _∙_}
 use mathlib.Core.Bool.{Bool, true, false}
 use mathlib.Core.List.{List, [], _∷_}
@@ -13,7 +13,6 @@ use Rattle.keycode.specs.declared.keys.Key.{Key}
 use Rattle.keycode.specs.declared.keys.Key.the-variants.{Version}
 use Rattle.keycode.specs.declared.keys.Decoded.{Decoded}
 use Rattle.keycode.specs.declared.keys.Decoded.the-variants.{Whole, Refused}
-use Rattle.keycode.proofs.Basics.{nope}
 use Rattle.keydir.specs.declared.slots.Slot.{Slot}
 use Rattle.keydir.specs.Slots.{keyOf, valueOf}
 use Rattle.bitcask.specs.Promises.{keyPart, valuePart}
@@ -22,6 +21,7 @@ use Rattle.handle.specs.declared.payload.ValueRead.{ValueRead}
 use Rattle.handle.specs.declared.payload.ValueRead.the-variants as Payload
 use Rattle.handle.specs.Handles.{sees}
 use Rattle.handle.specs.Payloads.{valueIn}
+use Rattle.handle.proofs.PayloadLaws.{skip-within}
 use Rattle.mvcc_scan.specs.declared.rows.Held.{Held}
 use Rattle.mvcc_scan.specs.declared.rows.Held.the-variants.{Hidden, Gone, Bad, Pair}
 use Rattle.mvcc_scan.specs.declared.rows.Row.{Row}
@@ -29,15 +29,6 @@ use Rattle.mvcc_scan.specs.declared.rows.Row.the-variants.{Junk, Good}
 use Rattle.mvcc_scan.specs.Rows.{behindPart, stringPart, heldBy, valueHeld, heldIn, rowKey, rowBy, rowIn}
 
 -- ---- a payload
-
--- a value starts within its payload
-skip-within : (b : List ℕ) (k : ℕ) → valueIn b ≡ Payload.Value k → k ≤ length b
-unfolding valueIn
-skip-within [] k e = nope (cc)
-skip-within (zero ∷ []) k e = nope (cc)
-skip-within (zero ∷ y ∷ r) k e = nope (cc)
-skip-within (suc zero ∷ r) k e = let z : 1 ≡ k = cc in omega arith
-skip-within (suc (suc t) ∷ r) k e = nope (cc)
 
 module _ (log : List ℕ) (s : Slot) {b : List ℕ} {got : ValueRead} (eb : b ≡ valueOf log s) (eg : got ≡ valueIn b) where
   value-within : (k : ℕ) → got ≡ Payload.Value k → k ≤ s .vlen

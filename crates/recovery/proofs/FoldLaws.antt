@@ -152,10 +152,6 @@ module _ (log log′ : List ℕ) (used : ℕ) (agree : take used log ≡ take us
       let p : pairOf log s ≡ pairOf log′ s = λ j. record { key = k j; value = v j } in
       cc (view-same a)
 
-  pub map-same : mapOf log used ≡ mapOf log′ used
-  unfolding mapOf
-  map-same = view-same (recovered-inside log used) ∙ ap (view log′) recovered-same
-
   -- ---- one entry more, at the end
 
   module _ (used′ : ℕ) (i : Item) (clean : ends 0 (items log used 0) ≡ used) (read : itemOf (entryAt log′ used′ used) used ≡ some i) (last : next i ≡ used′) (more : used ≤ used′) where

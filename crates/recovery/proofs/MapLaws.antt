@@ -126,11 +126,6 @@ module _ (j : List ℕ) where
   cut-rising [] s = rising-none
   cut-rising (q ∷ m) (rising-more a s) = cut-rising-on q m (compareBytes (q .key) j) refl a s (cut-rising m s)
 
-pub after-rising : (e : Entry) (m : List Pair) → Rising m → Rising (after e m)
-unfolding after
-after-rising (set k v) m s = put-rising (record { key = k; value = v }) m s
-after-rising (del k) m s = cut-rising k m s
-
 -- ---- the value of a key after one was taken out
 
 gone-on : (k : List ℕ) (q : Pair) (m : List Pair) (o : Order) → compareBytes (q .key) k ≡ o → Over (q .key) m → lookIn k (cutIn k m) ≡ none → lookIn k (cutIn k (q ∷ m)) ≡ none
