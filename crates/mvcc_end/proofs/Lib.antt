@@ -1,10 +1,1 @@
--- The laws of how transactions end; the crates above cite them.
-pub mod TombLaws
-pub mod CutLaws
-pub mod ManyLaws
-pub mod RoomLaws
-pub mod ClearLaws
-pub mod AgreedLaws
-pub mod TurnLaws
-pub mod ClearedLaws
-pub mod PlanLaws
+-- The laws of how transactions end.

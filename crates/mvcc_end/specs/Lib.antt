@@ -1,3 +1,3 @@
 -- The definitions of how transactions end.
-pub mod Ends
 pub mod Plans
+pub mod Promises

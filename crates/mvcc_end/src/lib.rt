@@ -1,5 +1,1 @@
 // How transactions end. Part of toydb's storage/mvcc.rs. Document 01, 'Transactions'.
-pub mod clear;
-pub mod cut;
-pub mod room;
-pub mod tomb;

@@ -30,12 +30,12 @@ use Rattle.handle.specs.declared.payload.ValueRead.the-variants as Payload
 use Rattle.handle.specs.Handles.{sees, soundHandle}
 use Rattle.handle.specs.Payloads.{valueIn, valueAt}
 use Rattle.txn.specs.Ranges.{keep, pairsOf}
-use Rattle.txn.specs.Checks.{admitBy}
+use Rattle.txn.specs.Checks.{admitBy, openIn}
 use Rattle.txn.proofs.RangeLaws.{keep-map}
 use Rattle.mvcc_read.specs.declared.seen.Seen.{Seen}
 use Rattle.mvcc_read.specs.declared.seen.Seen.the-variants.{Hidden, Gone, Bad, Value}
 use Rattle.mvcc_read.specs.Seen.{versionOf, saysBy, valueSays, seenBy, seenIn, orElse, lastSeen, locatedSeen, versionTest, pairBy, pairSays, orPair, lastPair, orGone, valueFor}
-use Rattle.mvcc_read.specs.Promises.{openIn, checked, getAnswer, Gets}
+use Rattle.mvcc_read.specs.Promises.{checked, getAnswer, Gets}
 
 -- ---- a walk over slots is the walk over their pairs
 

@@ -26,18 +26,10 @@ use Rattle.handle.specs.Handles.{soundHandle, blankHandle}
 use Rattle.txn.specs.declared.look.Slotted.{Slotted}
 use Rattle.txn.specs.declared.look.Slotted.the-variants as Slots
 use Rattle.txn.specs.Ranges.{keep}
-use Rattle.txn.specs.Looks.{liveIn, slotIn}
-use Rattle.txn.specs.Checks.{activeKey, openBy, admitBy}
+use Rattle.txn.specs.Looks.{slotIn}
+use Rattle.txn.specs.Checks.{openBy, admitBy, asked, openIn}
 use Rattle.mvcc_read.specs.declared.resume.Begun.{Begun}
 use Rattle.mvcc_read.specs.Seen.{lastSeen, locatedSeen, versionTest}
-
--- the sizes of a request and its handle: 13 where not
-abbrev pub asked : List ℕ → ℕ → List ℕ → Handle → Bool
-asked log used t h = pick (fit (length log) used (length t)) (soundHandle h) false
-
--- whether the map of a log says that a handle's transaction is open
-abbrev pub openIn : List ℕ → ℕ → Handle → Bool
-openIn log used h = openBy h (liveIn (activeKey h) (mapOf log used))
 
 -- ---- get
 

@@ -19,18 +19,9 @@ use Rattle.bitcask.specs.Promises.{steppedNumber}
 use Rattle.handle.specs.declared.handle.Handle.{Handle}
 use Rattle.handle.specs.Handles.{soundHandle}
 use Rattle.txn.specs.Ranges.{keep}
-use Rattle.txn.specs.Looks.{liveIn}
-use Rattle.txn.specs.Checks.{activeKey, openBy, admitBy}
+use Rattle.txn.specs.Checks.{admitBy, asked, openIn}
 use Rattle.mvcc_scan.specs.Walks.{stepIn}
 use Rattle.mvcc_scan.specs.Bounds.{keysFit, scanned}
-
--- the sizes of a request and its handle: 13 where not
-abbrev pub asked : List ℕ → ℕ → List ℕ → Handle → Bool
-asked log used t h = pick (fit (length log) used (length t)) (soundHandle h) false
-
--- whether the map of a log says that a handle's transaction is open
-abbrev pub openIn : List ℕ → ℕ → Handle → Bool
-openIn log used h = openBy h (liveIn (activeKey h) (mapOf log used))
 
 abbrev pub checkedStep : Check → Stepped → Stepped
 checkedStep Check.Fine l = l

@@ -27,10 +27,10 @@ use Rattle.bitcask.specs.declared.append.Room.the-variants.{Left, Full}
 use Rattle.bitcask.specs.declared.append.Check.{Check}
 use Rattle.bitcask.specs.declared.append.Check.the-variants.{Fine, Refused}
 use Rattle.bitcask.specs.Append.{judge, sizeAll, bytesAll, afterAll, appendAnswer}
-use Rattle.txn.specs.Lists.{appendedAll, roomAll, freshAll, Sets, Apart, checkOf}
+use Rattle.txn.specs.Lists.{appendedAll, roomAll, freshAll, Sets, Apart, checkOf, judgeAll, stateOf, Tries}
 use Rattle.txn.proofs.ListLaws.{all-log, all-words, append-all}
 use Rattle.txn.proofs.FitLaws.{room-all, judge-says, sets-judged, sets-fit, answer-fine}
-use Rattle.mvcc_write.specs.Writes.{orElse, judgeAll, stateOf, Tries}
+use Rattle.txn.specs.Checks.{orElse}
 use Rattle.mvcc_write.specs.Promises.{Leaves}
 
 -- the numbers that come after those of the request

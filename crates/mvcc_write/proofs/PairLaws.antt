@@ -22,10 +22,10 @@ use Rattle.bitcask.specs.declared.append.Check.the-variants.{Fine, Refused}
 use Rattle.bitcask.specs.Append.{State, appended, roomAfter, judge, wants, freshIn, sizeAll}
 use Rattle.handle.specs.declared.code.Code.{Code}
 use Rattle.handle.specs.Codes.{Codes}
-use Rattle.txn.specs.Lists.{appendedAll, roomAll, freshAll}
+use Rattle.txn.specs.Lists.{appendedAll, roomAll, freshAll, judgeAll, stateOf, Tries}
 use Rattle.txn.proofs.ListLaws.{all-used, all-count, all-size}
 use Rattle.txn.proofs.FitLaws.{judge-says}
-use Rattle.mvcc_write.specs.Writes.{plan, judgeAll, stateOf, Tries}
+use Rattle.mvcc_write.specs.Writes.{plan}
 
 -- ---- the judgement
 

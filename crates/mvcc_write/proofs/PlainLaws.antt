@@ -27,10 +27,11 @@ use Rattle.bitcask.specs.declared.append.Check.the-variants.{Fine, Refused}
 use Rattle.bitcask.specs.Append.{State, appended, roomAfter, judge, freshIn, sizeAll, appendAnswer}
 use Rattle.handle.specs.declared.code.Code.{Code}
 use Rattle.handle.specs.Codes.{Codes}
-use Rattle.txn.specs.Lists.{appendedAll, roomAll, freshAll, Sets, sets-none, sets-more, Apart, apart-none, apart-more}
+use Rattle.txn.specs.Lists.{appendedAll, roomAll, freshAll, Sets, sets-none, sets-more, Apart, apart-none, apart-more, judgeAll, stateOf, Tries}
 use Rattle.txn.proofs.ListLaws.{all-used}
 use Rattle.txn.proofs.FitLaws.{judge-says}
-use Rattle.mvcc_write.specs.Writes.{orElse, sizesBy, plainPlan, judgeAll, stateOf, Tries}
+use Rattle.txn.specs.Checks.{orElse}
+use Rattle.mvcc_write.specs.Writes.{sizesBy, plainPlan}
 use Rattle.mvcc_write.specs.Promises.{EarlyPlain, SetsPlain, plainAnswer}
 use Rattle.mvcc_write.proofs.LayLaws.{Late, late-done, late-unseen, late-log, late-table, late-bad, Lays, leaves-refused, tries-lays}
 

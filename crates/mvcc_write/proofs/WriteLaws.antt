@@ -24,10 +24,10 @@ use Rattle.bitcask.specs.Append.{appendAnswer}
 use Rattle.handle.specs.declared.handle.Handle.{Handle}
 use Rattle.handle.specs.Handles.{soundHandle}
 use Rattle.txn.specs.Looks.{liveOf}
-use Rattle.txn.specs.Checks.{activeKey, openBy}
-use Rattle.txn.specs.Lists.{Sets, sets-none, sets-more, Apart, apart-none, apart-more}
+use Rattle.txn.specs.Checks.{activeKey, openBy, orElse}
+use Rattle.txn.specs.Lists.{Sets, sets-none, sets-more, Apart, apart-none, apart-more, Tries}
 use Rattle.txn.proofs.CheckLaws.{open-agrees}
-use Rattle.mvcc_write.specs.Writes.{orElse, allowBy, searchBy, versionsIn, plan, Tries}
+use Rattle.mvcc_write.specs.Writes.{allowBy, searchBy, versionsIn, plan}
 use Rattle.mvcc_write.specs.Promises.{Writes, writeAnswer}
 use Rattle.mvcc_write.proofs.SearchLaws.{Found, found-bad, found-unseen, search-refused, search-agrees}
 use Rattle.mvcc_write.proofs.LayLaws.{Late, late-unseen, late-bad, leaves-refused, tries-lays}

@@ -23,8 +23,8 @@ use Rattle.handle.specs.declared.handle.Handle.{Handle}
 use Rattle.handle.specs.Handles.{soundHandle}
 use Rattle.txn.specs.Ranges.{pairsOf}
 use Rattle.txn.specs.Looks.{liveIn}
-use Rattle.txn.specs.Checks.{activeKey, ownVersion, openBy}
-use Rattle.mvcc_write.specs.Writes.{orElse, sizesBy, allowBy, searchBy, searched, plan, plainPlan}
+use Rattle.txn.specs.Checks.{activeKey, ownVersion, openBy, orElse}
+use Rattle.mvcc_write.specs.Writes.{sizesBy, allowBy, searchBy, searched, plan, plainPlan}
 
 -- a request that is none of 13 and 2
 unfoldable pub mayWrite : Bool → Bool → Bool → Bool

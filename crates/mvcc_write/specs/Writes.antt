@@ -31,16 +31,6 @@ use Rattle.txn.specs.Lists.{appendedAll, roomAll, freshAll}
 
 -- ---- one test after the other
 
--- what follows where a test passed
-abbrev pub onFine : {A : Type 0} → Check → A → A → A
-onFine Fine a b = a
-onFine (Refused r) a b = b
-
--- the answer of a test that did not pass
-abbrev pub orElse : Check → Changed → Changed
-orElse Fine a = a
-orElse (Refused r) a = Change.Refused r
-
 -- 4, then 5
 unfoldable pub sizesBy : Bool → Bool → Check
 sizesBy short small = pick short (pick small Fine (Refused ValueTooLong)) (Refused KeyTooLong)
@@ -96,17 +86,3 @@ plan v key payload = set (encode (txnWrite v key)) [] ∷ set (encode (version k
 -- the unversioned set's
 unfoldable pub plainPlan : List ℕ → List ℕ → List Entry
 plainPlan key value = set (encode (unversioned key)) value ∷ []
-
--- ---- entries tried on any table
-
--- 7 and 8 by the slots that the code counts
-unfoldable pub judgeAll : List ℕ → ℕ → List ℕ → ℕ → List Entry → Check
-judgeAll log used t n es = judge (roomAll (Left (length log - used)) es) (freshAll log es (slotsOf n t)) (length t / slotWords - n)
-
-abbrev pub stateOf : List ℕ → ℕ → List ℕ → ℕ → State
-stateOf log used t n = record { log = log; used = used; table = t; count = n }
-
-pub record Tries (log : List ℕ) (used : ℕ) (t : List ℕ) (n : ℕ) (es : List Entry) (r : Changed) (log′ t′ : List ℕ) : Type 0 where
-  pub answer : r ≡ orElse (judgeAll log used t n es) (Change.Done (record { len = used + sizeAll es }))
-  pub bytes : log′ ≡ onFine (judgeAll log used t n es) (appendedAll (stateOf log used t n) es .log) log
-  pub words : t′ ≡ onFine (judgeAll log used t n es) (appendedAll (stateOf log used t n) es .table) t

@@ -18,7 +18,8 @@ ghost use lib.ListN.{length};
 ghost use Rattle.keycode.specs.Limits.{maxKey, maxValue, maxLog};
 ghost use Rattle.keydir.specs.Slots.{slotWords};
 ghost use Rattle.handle.specs.Payloads.{valueBytes};
-ghost use Rattle.mvcc_write.specs.Writes.{Tries, plan};
+ghost use Rattle.txn.specs.Lists.{Tries};
+ghost use Rattle.mvcc_write.specs.Writes.{plan};
 ghost use Rattle.mvcc_write.specs.Promises.{Writes};
 
 // The two entries of a write.

@@ -18,7 +18,7 @@ ghost use Rattle.entry.specs.Entry.{set as setEntry};
 ghost use Rattle.keydir.specs.Slots.{slotWords, slotsOf};
 ghost use Rattle.bitcask.specs.declared.append.Room.the-variants.{Left};
 ghost use Rattle.bitcask.specs.Append.{roomAfter, judge, freshIn};
-ghost use Rattle.mvcc_write.specs.Writes.{Tries};
+ghost use Rattle.txn.specs.Lists.{Tries};
 
 // 7 and 8 for both: the first has no value, the second one of vlen bytes.
 fn judged_pair(

@@ -20,7 +20,7 @@ ghost use lib.ListN.{length};
 ghost use Rattle.keycode.specs.Limits.{maxLog};
 ghost use Rattle.entry.specs.Entry.{set as setEntry};
 ghost use Rattle.keydir.specs.Slots.{slotWords};
-ghost use Rattle.mvcc_write.specs.Writes.{Tries};
+ghost use Rattle.txn.specs.Lists.{Tries};
 ghost use Rattle.mvcc_write.specs.Promises.{SetsPlain};
 
 // One entry, where it has room and a slot.

@@ -4,13 +4,20 @@ use Prim.Native.Nat.{ℕ, _-_, _^_}
 use mathlib.Core.Bool.{Bool, true, false}
 use mathlib.Core.List.{List}
 use lib.Dec.{eqb}
+use lib.ListN.{length}
 use Rattle.keycode.specs.Tests.{pick}
 use Rattle.keycode.specs.Refusals.{numberOf}
 use Rattle.keycode.specs.Keys.{encode, txnActive}
 use Rattle.keycode.specs.declared.refusal.Refusal.the-variants.{NotOpen, BadRequest}
 use Rattle.bitcask.specs.declared.append.Check.{Check}
 use Rattle.bitcask.specs.declared.append.Check.the-variants.{Fine, Refused}
+use Rattle.recovery.specs.declared.request.Changed.{Changed}
+use Rattle.recovery.specs.declared.request.Changed.the-variants as Change
+use Rattle.recovery.specs.Recover.{mapOf}
+use Rattle.recovery.specs.Agree.{fit}
 use Rattle.handle.specs.declared.handle.Handle.{Handle}
+use Rattle.handle.specs.Handles.{soundHandle}
+use Rattle.txn.specs.Looks.{liveIn}
 
 -- the key whose record says that a handle's transaction is open
 abbrev pub activeKey : Handle → List ℕ
@@ -31,3 +38,25 @@ admitBy fits sound active = pick fits (pick sound (pick active Fine (Refused Not
 abbrev pub checkNumber : Check → ℕ
 checkNumber Fine = 0
 checkNumber (Refused r) = numberOf r
+
+-- ---- one test after the other
+
+-- what follows where a test passed
+abbrev pub onFine : {A : Type 0} → Check → A → A → A
+onFine Fine a b = a
+onFine (Refused r) a b = b
+
+-- the answer of a test that did not pass
+abbrev pub orElse : Check → Changed → Changed
+orElse Fine a = a
+orElse (Refused r) a = Change.Refused r
+
+-- ---- of a log's map
+
+-- the sizes of a request and its handle: 13 where not
+abbrev pub asked : List ℕ → ℕ → List ℕ → Handle → Bool
+asked log used t h = pick (fit (length log) used (length t)) (soundHandle h) false
+
+-- whether the map of a log says that a handle's transaction is open
+abbrev pub openIn : List ℕ → ℕ → Handle → Bool
+openIn log used h = openBy h (liveIn (activeKey h) (mapOf log used))

@@ -1,22 +1,28 @@
 -- Lists of entries, appended one after the other: the store then, the room left, the keys that are new. Assumes nothing.
-use Prim.Native.Nat.{ℕ, _+_, _≤_}
+use Prim.Native.Nat.{ℕ, _+_, _-_, _/_, _≤_}
 use mathlib.Core.Path.{_≡_}
 use mathlib.Core.Bool.{Bool, true, false}
 use mathlib.Core.List.{List, [], _∷_}
 use lib.ListN.{length}
 use Rattle.entry.specs.Entry.{Entry, set, del, entryKey, entryValue}
 use Rattle.keydir.specs.declared.slots.Slot.{Slot}
+use Rattle.keydir.specs.Slots.{slotWords, slotsOf}
 use Rattle.keydir.specs.Place.{All}
 use Rattle.recovery.specs.Map.{Pair, after}
 use Rattle.recovery.specs.declared.request.Changed.{Changed}
 use Rattle.recovery.specs.declared.request.Changed.the-variants as Change
 use Rattle.bitcask.specs.declared.append.Room.{Room}
+use Rattle.bitcask.specs.declared.append.Room.the-variants.{Left}
 use Rattle.bitcask.specs.declared.append.Check.{Check}
 use Rattle.bitcask.specs.declared.append.Check.the-variants.{Fine, Refused}
-use Rattle.bitcask.specs.Append.{State, appended, roomAfter, freshIn}
+use Rattle.bitcask.specs.Append.{State, appended, roomAfter, freshIn, judge, sizeAll}
 use Rattle.txn.specs.Looks.{liveIn}
+use Rattle.txn.specs.Checks.{onFine, orElse}
 
 -- ---- the store
+
+abbrev pub stateOf : List ℕ → ℕ → List ℕ → ℕ → State
+stateOf log used t n = record { log = log; used = used; table = t; count = n }
 
 unfoldable pub appendedAll : State → List Entry → State
 appendedAll s [] = s
@@ -74,3 +80,14 @@ pub data Fitting (cap : ℕ) : List Entry → List Pair → Type 0 where
 abbrev pub checkOf : Changed → Check
 checkOf (Change.Done u) = Fine
 checkOf (Change.Refused r) = Refused r
+
+-- ---- entries tried on any table
+
+-- 7 and 8 by the slots that the code counts
+unfoldable pub judgeAll : List ℕ → ℕ → List ℕ → ℕ → List Entry → Check
+judgeAll log used t n es = judge (roomAll (Left (length log - used)) es) (freshAll log es (slotsOf n t)) (length t / slotWords - n)
+
+pub record Tries (log : List ℕ) (used : ℕ) (t : List ℕ) (n : ℕ) (es : List Entry) (r : Changed) (log′ t′ : List ℕ) : Type 0 where
+  pub answer : r ≡ orElse (judgeAll log used t n es) (Change.Done (record { len = used + sizeAll es }))
+  pub bytes : log′ ≡ onFine (judgeAll log used t n es) (appendedAll (stateOf log used t n) es .log) log
+  pub words : t′ ≡ onFine (judgeAll log used t n es) (appendedAll (stateOf log used t n) es .table) t

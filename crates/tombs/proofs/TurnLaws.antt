@@ -1,0 +1,113 @@
+-- Where the table agrees with the log, slots cut one after the other are the tombstones of their keys appended. Assumes nothing.
+use Prim.Native.Nat.{ℕ, zero, suc, _+_, _<_, _≤_}
+use mathlib.Core.Path.{_≡_, refl, sym, ap, _∙_, subst}
+use mathlib.Core.List.{List, [], _∷_, _++_}
+use native.Mathlib.Omega.{arith}
+use lib.ListN.{length, take, getD, length-append}
+use lib.Seq.{getD-at}
+use borrow.Author.Tests.{lt-ltb}
+use Rattle.keycode.specs.Buffer.{put}
+use Rattle.entry.specs.Entry.{Entry, del, bytesOf, sizeOf}
+use Rattle.keydir.specs.declared.slots.Slot.{Slot}
+use Rattle.keydir.specs.declared.place.Found.{Found}
+use Rattle.keydir.specs.declared.place.Found.the-variants.{At}
+use Rattle.keydir.specs.Slots.{freeSlot, slotAt, slotsOf, keyOf, removeAt}
+use Rattle.keydir.specs.Place.{placeOf, placeIn, cutAt, countOf, All, all-none, all-more, Sorted}
+use Rattle.keydir.proofs.SlotLaws.{slots-length, slot-at-is}
+use Rattle.keydir.proofs.TableLaws.{laid-slots}
+use Rattle.recovery.specs.Recover.{recovered}
+use Rattle.recovery.specs.Agree.{Agrees}
+use Rattle.recovery.proofs.FoldLaws.{Inside, recovered-sorted, recovered-inside}
+use Rattle.recovery.proofs.AgreeLaws.{agrees-sound, agrees-slots, agrees-place, append-before}
+use Rattle.bitcask.specs.Append.{State, appended, sizeAll}
+use Rattle.txn.specs.Lists.{appendedAll, dels-none, dels-more}
+use Rattle.txn.proofs.ListLaws.{Appends, all-used, all-size}
+use Rattle.txn.proofs.FitLaws.{dels-append}
+use Rattle.tombs.specs.Cuts.{cutOne, cutSlot, cutMany, delsOf}
+use Rattle.tombs.proofs.CutLaws.{one-done}
+use Rattle.tombs.proofs.ManyLaws.{single}
+use Rattle.tombs.proofs.AgreedLaws.{place-self, remove-self, dels-same, inside-long}
+
+all-front : {P : Slot → Type 0} (xs post : List Slot) → All P (xs ++ post) → All P xs
+all-front [] post a = all-none
+all-front (x ∷ xs) post (all-more p a) = all-more p (all-front xs post a)
+
+all-past : {P : Slot → Type 0} (pre xs : List Slot) → All P (pre ++ xs) → All P xs
+all-past [] xs a = a
+all-past (y ∷ pre) xs (all-more p a) = all-past pre xs a
+
+all-head : {P : Slot → Type 0} {x : Slot} {xs : List Slot} → All P (x ∷ xs) → P x
+all-head (all-more p a) = p
+
+all-tail : {P : Slot → Type 0} {x : Slot} {xs : List Slot} → All P (x ∷ xs) → All P xs
+all-tail (all-more p a) = a
+
+one-size : (k : List ℕ) → sizeAll (del k ∷ []) ≡ 8 + length k
+unfolding sizeAll
+one-size k = omega arith
+
+module _ (s : State) (g : Agrees (s .log) (s .used) (s .table)) (en : s .count ≡ countOf (s .table)) (pre : List Slot) (x : Slot) (rest : List Slot)
+    (es : slotsOf (s .count) (s .table) ≡ pre ++ (x ∷ rest)) where
+  abbrev k : List ℕ
+  k = keyOf (s .log) x
+
+  slots-are : recovered (s .log) (s .used) ≡ pre ++ (x ∷ rest)
+  slots-are = sym (agrees-slots (s .log) (s .used) (s .table) g) ∙ ap (λ (n : ℕ). slotsOf n (s .table)) (sym en) ∙ es
+
+  insides : All (Inside (s .used)) (x ∷ rest)
+  insides = all-past pre (x ∷ rest) (subst (All (Inside (s .used))) slots-are (recovered-inside (s .log) (s .used)))
+
+  found : placeOf (s .log) k (slotsOf (s .count) (s .table)) ≡ At (length pre)
+  found =
+      ap (λ (n : ℕ). placeOf (s .log) k (slotsOf n (s .table))) en ∙ agrees-place (s .log) (s .used) (s .table) g k ∙ ap (placeIn (s .log) k) slots-are
+      ∙ place-self (s .log) pre x rest (subst (Sorted (s .log)) slots-are (recovered-sorted (s .log) (s .used)))
+
+  next-slots : slotsOf (appended s (del k) .count) (appended s (del k) .table) ≡ pre ++ rest
+  unfolding appended
+  next-slots =
+      laid-slots (s .count) (cutAt (placeOf (s .log) k (slotsOf (s .count) (s .table))) (slotsOf (s .count) (s .table))) (s .table)
+      ∙ ap (λ (f : Found). cutAt f (slotsOf (s .count) (s .table))) found ∙ ap (removeAt (length pre)) es ∙ remove-self pre x rest
+
+  below : length pre < s .count
+  below = omega (arith, slots-length (s .count) (s .table), ap length es ∙ length-append pre (x ∷ rest))
+
+  at-x : slotAt (s .table) (length pre) ≡ x
+  at-x = slot-at-is (s .count) (s .table) (length pre) below ∙ ap (λ (r : List Slot). getD r (length pre) freeSlot) es ∙ getD-at pre x rest freeSlot (length pre) refl
+
+  module _ (room : s .used + (8 + length k) ≤ length (s .log)) where
+    cut-is : cutSlot s (length pre) ≡ appended s (del k)
+    unfolding cutSlot
+    cut-is =
+        let i : Inside (s .used) x = all-head insides in
+        let l = inside-long (s .log) (s .used) x (agrees-sound (s .log) (s .used) (s .table) g .within) i in
+        ap (cutOne s) at-x ∙ one-done s x (omega (arith, i .within)) (omega (arith, l))
+
+    appends : Appends (s .log) (s .used) (s .table) (del k ∷ []) (appended s (del k))
+    appends =
+        subst (Appends (s .log) (s .used) (s .table) (del k ∷ [])) (single s k)
+        (dels-append (s .log) (s .used) (s .table) (del k ∷ []) g (s .count) en (omega (arith, one-size k)) (dels-more dels-none))
+
+    same : take (s .used) (s .log) ≡ take (s .used) (appended s (del k) .log)
+    unfolding appended
+    same = append-before (s .log) (s .used) (del k) (agrees-sound (s .log) (s .used) (s .table) g .small) (omega arith)
+
+    long : length (appended s (del k) .log) ≡ length (s .log)
+    long = ap (λ (y : State). length (y .log)) (sym (single s k)) ∙ all-size s (del k ∷ []) (omega (arith, one-size k))
+
+-- the slots xs, which stand behind pre
+pub many-agrees : (xs : List Slot) (s : State) → Agrees (s .log) (s .used) (s .table) → s .count ≡ countOf (s .table) → (pre post : List Slot) → slotsOf (s .count) (s .table) ≡ pre ++ (xs ++ post)
+    → s .used + sizeAll (delsOf (s .log) xs) ≤ length (s .log) → cutMany (length xs) s (length pre) ≡ appendedAll s (delsOf (s .log) xs)
+unfolding cutMany appendedAll delsOf sizeAll
+many-agrees [] s g en pre post es room = refl
+many-agrees (x ∷ xs) s g en pre post es room =
+    let e : Entry = del (keyOf (s .log) x) in
+    let r : s .used + (8 + length (keyOf (s .log) x)) ≤ length (s .log) = omega arith in
+    let w = appends s g en pre x (xs ++ post) es r in
+    let d : delsOf (s .log) xs ≡ delsOf (appended s e .log) xs =
+    dels-same (s .log) (appended s e .log) (s .used) (same s g en pre x (xs ++ post) es r) (all-front xs post (all-tail (insides s g en pre x (xs ++ post) es))) in
+    let q : sizeAll (delsOf (appended s e .log) xs) ≡ sizeAll (delsOf (s .log) xs) = ap sizeAll (sym d) in
+    rw (lt-ltb (length pre) (s .count) (below s g en pre x (xs ++ post) es))
+    (ap (λ (y : State). cutMany (length xs) y (length pre)) (cut-is s g en pre x (xs ++ post) es r)
+    ∙ many-agrees xs (appended s e) (w .again) (w .counted) pre post (next-slots s g en pre x (xs ++ post) es)
+    (omega (arith, q, w .ends, one-size (keyOf (s .log) x), long s g en pre x (xs ++ post) es r))
+    ∙ ap (appendedAll (appended s e)) (sym d))

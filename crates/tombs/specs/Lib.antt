@@ -1,0 +1,3 @@
+-- The definitions of slots' keys deleted.
+pub mod Cuts
+pub mod Plans
