@@ -6,9 +6,3 @@ pub mod ScanLaws
 pub mod ReadLaws
 pub mod ShowLaws
 pub mod Unique
-pub mod LiveLaws
-pub mod MoveLaws
-pub mod PackLaws
-pub mod CompactLaws
-pub mod CompactUnique
-pub mod GrownLaws

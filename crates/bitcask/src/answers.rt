@@ -20,16 +20,3 @@ pub enum Stepped {
     Next { key: Part, value: Part },
     Refused(Refusal),
 }
-
-// Live keys, their key and value bytes, the used length, and the bytes that the live entries take. Garbage is the last two's difference.
-pub struct Counts {
-    pub keys: usize,
-    pub size: usize,
-    pub used: usize,
-    pub live: usize,
-}
-
-pub enum Counted {
-    Done(Counts),
-    Refused(Refusal),
-}

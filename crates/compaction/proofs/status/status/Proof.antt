@@ -2,11 +2,11 @@
 use mathlib.Core.Path.{sym, _∙_}
 use borrow.Author.Tests.{not-true, not-false}
 use Rattle.keydir.proofs.CountLaws.{count-within}
-use Rattle.bitcask.proofs.LiveLaws.{counting-bad, counting-over, counting-room, counting-done}
+use Rattle.compaction.proofs.LiveLaws.{counting-bad, counting-over, counting-room, counting-done}
 use borrow.Author.Needs.{needs}
 use native.Mathlib.Omega.{arith}
-use Rattle.bitcask.proofs.status.status.Statement.{statement}
-use Rattle.bitcask.proofs.status.status.Tie as tie
+use Rattle.compaction.proofs.status.status.Statement.{statement}
+use Rattle.compaction.proofs.status.status.Tie as tie
 
 returns : tie.Need-returns
 returns c = let a = c .before .before .before .before .args in counting-bad (a .log .now) (a .used .len) (a .table .now) (sym (c .before .fits2 .ensures) ∙ not-true _ (c .if1 .taken))

@@ -1,9 +1,9 @@
 -- `move_all` moves one slot's entry after the other.
 use Prim.Native.Nat.{_-_}
-use Rattle.bitcask.proofs.MoveLaws.{Moving, moving-start, moving-words, moving-bytes, moving-room, moving-more, moving-end}
+use Rattle.compaction.proofs.MoveLaws.{Moving, moving-start, moving-words, moving-bytes, moving-room, moving-more, moving-end}
 use native.Mathlib.Omega.{arith}
-use Rattle.bitcask.proofs.compact.move_all.Statement.{statement}
-use Rattle.bitcask.proofs.compact.move_all.Tie as tie
+use Rattle.compaction.proofs.compact.move_all.Statement.{statement}
+use Rattle.compaction.proofs.compact.move_all.Tie as tie
 
 abbrev Inv-loop : tie.InvT-loop
 Inv-loop log table₀ count target₀ to₀ i₀ table target to i = Moving log table₀ target₀ count table target to i

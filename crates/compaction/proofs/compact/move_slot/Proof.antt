@@ -1,9 +1,9 @@
 -- `move_slot` reads the slot's key and value, lays their entry and renames the slot.
-use Rattle.bitcask.proofs.MoveLaws.{slot-room, slot-moved}
+use Rattle.compaction.proofs.MoveLaws.{slot-room, slot-moved}
 use borrow.Author.Needs.{needs}
 use native.Mathlib.Omega.{arith}
-use Rattle.bitcask.proofs.compact.move_slot.Statement.{statement}
-use Rattle.bitcask.proofs.compact.move_slot.Tie as tie
+use Rattle.compaction.proofs.compact.move_slot.Statement.{statement}
+use Rattle.compaction.proofs.compact.move_slot.Tie as tie
 
 put-set-requires : tie.Need-put-set-requires
 put-set-requires c κs = let a = c .before .before .before .before .before .before .before .before .before .args in let h = slot-room (a .log .now) (a .table .now) (a .i) (a .to) (c .before .before .before .before .slot-at .ensures) (c .before .before .before .key-of .ensures) (c .before .before .value-of .ensures) (a .target .now) (c .before .before .before .before .before .before .before .before .before .pre .1) in (omega arith, c .before .before .before .before .before .before .before .before .before .pre .2)

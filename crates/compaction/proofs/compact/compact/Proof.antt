@@ -2,10 +2,10 @@
 use mathlib.Core.Path.{sym, _∙_}
 use borrow.Author.Tests.{not-true, not-false}
 use Rattle.keydir.proofs.CountLaws.{count-within}
-use Rattle.bitcask.proofs.CompactLaws.{compact-unfit, compact-large, compact-full, compact-room, compact-done}
+use Rattle.compaction.proofs.CompactLaws.{compact-unfit, compact-large, compact-full, compact-room, compact-done}
 use borrow.Author.Needs.{needs}
-use Rattle.bitcask.proofs.compact.compact.Statement.{statement}
-use Rattle.bitcask.proofs.compact.compact.Tie as tie
+use Rattle.compaction.proofs.compact.compact.Statement.{statement}
+use Rattle.compaction.proofs.compact.compact.Tie as tie
 
 returns : tie.Need-returns
 returns c = let a = c .before .before .before .before .before .args in compact-unfit (a .log .now) (a .used .len) (a .table .now) (a .target .now) (sym (c .before .fits2 .ensures) ∙ not-true _ (c .if1 .taken))

@@ -1,6 +1,4 @@
 // Status: how many keys a store has, how many bytes they take, and how many of the log's are theirs.
-use crate::answers::Counted;
-use crate::answers::Counts;
 use keycode::Refusal;
 use keydir::count;
 use keydir::slot_at;
@@ -11,8 +9,21 @@ ghost use Prim.Native.Nat.{_+_, _*_, _≤_, _<_};
 ghost use lib.ListN.{length};
 ghost use Rattle.keydir.specs.Slots.{slotWords, slotsOf};
 ghost use Rattle.recovery.specs.Recover.{live as liveOf};
-ghost use Rattle.bitcask.specs.Compaction.{capped};
-ghost use Rattle.bitcask.specs.Promises.{Counting};
+ghost use Rattle.compaction.specs.Compaction.{capped};
+ghost use Rattle.compaction.specs.Promises.{Counting};
+
+// Live keys, their key and value bytes, the used length, and the bytes that the live entries take. Garbage is the last two's difference.
+pub struct Counts {
+    pub keys: usize,
+    pub size: usize,
+    pub used: usize,
+    pub live: usize,
+}
+
+pub enum Counted {
+    Done(Counts),
+    Refused(Refusal),
+}
 
 // A sum that stops at a cap: words that were altered by hand could make any other wrap.
 pub enum Sum {

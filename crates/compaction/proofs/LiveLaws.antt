@@ -22,13 +22,13 @@ use Rattle.recovery.specs.Recover.{live, view, mapOf}
 use Rattle.recovery.specs.Agree.{fit, Agrees}
 use Rattle.recovery.proofs.FoldLaws.{Inside, recovered-inside, recovered-live, live-count}
 use Rattle.recovery.proofs.AgreeLaws.{agrees-sound, agrees-count, agrees-slots, map-length}
-use Rattle.bitcask.specs.declared.status.Sum.{Sum}
-use Rattle.bitcask.specs.declared.status.Sum.the-variants.{Total, Over}
-use Rattle.bitcask.specs.declared.answers.Counts.{Counts}
-use Rattle.bitcask.specs.declared.answers.Counted.the-variants.{Done, Refused}
+use Rattle.compaction.specs.declared.status.Sum.{Sum}
+use Rattle.compaction.specs.declared.status.Sum.the-variants.{Total, Over}
+use Rattle.compaction.specs.declared.status.Counts.{Counts}
+use Rattle.compaction.specs.declared.status.Counted.the-variants.{Done, Refused}
 use Rattle.bitcask.specs.Append.{sizeAll}
-use Rattle.bitcask.specs.Compaction.{entriesOf, contents, capped}
-use Rattle.bitcask.specs.Promises.{countsOf, Counting}
+use Rattle.compaction.specs.Compaction.{entriesOf, contents, capped}
+use Rattle.compaction.specs.Promises.{countsOf, Counting}
 
 -- ---- the sum
 

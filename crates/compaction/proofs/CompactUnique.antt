@@ -8,10 +8,10 @@ use Rattle.recovery.specs.declared.request.Changed.the-variants.{Done, Refused}
 use Rattle.recovery.specs.Recover.{mapOf}
 use Rattle.recovery.specs.Agree.{Agrees}
 use Rattle.recovery.proofs.AgreeLaws.{agrees-unique}
-use Rattle.bitcask.specs.declared.answers.Counted.{Counted}
+use Rattle.compaction.specs.declared.status.Counted.{Counted}
 use Rattle.bitcask.specs.Append.{sizeAll}
-use Rattle.bitcask.specs.Compaction.{entriesOf}
-use Rattle.bitcask.specs.Promises.{Compacts, Counting}
+use Rattle.compaction.specs.Compaction.{entriesOf}
+use Rattle.compaction.specs.Promises.{Compacts, Counting}
 
 module _ (log : List ℕ) (used : ℕ) (t : List ℕ) (a : Agrees log used t) where
   pub counting-unique : {r r′ : Counted} → Counting log used t r → Counting log used t r′ → r ≡ r′

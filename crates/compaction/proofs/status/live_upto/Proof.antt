@@ -1,9 +1,9 @@
 -- `live_upto` sums what the slots' words say, and stops where that exceeds the cap.
 use Prim.Native.Nat.{_-_}
-use Rattle.bitcask.proofs.LiveLaws.{Summing, sum-start, sum-end, sum-over, sum-more}
+use Rattle.compaction.proofs.LiveLaws.{Summing, sum-start, sum-end, sum-over, sum-more}
 use native.Mathlib.Omega.{arith}
-use Rattle.bitcask.proofs.status.live_upto.Statement.{statement}
-use Rattle.bitcask.proofs.status.live_upto.Tie as tie
+use Rattle.compaction.proofs.status.live_upto.Statement.{statement}
+use Rattle.compaction.proofs.status.live_upto.Tie as tie
 
 abbrev Inv-loop : tie.InvT-loop
 Inv-loop table count cap total₀ i₀ total i = Summing table count cap total i

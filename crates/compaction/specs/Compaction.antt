@@ -10,9 +10,9 @@ use Rattle.entry.specs.Entry.{Entry, set, bytesOf, sizeOf}
 use Rattle.keydir.specs.declared.slots.Slot.{Slot}
 use Rattle.keydir.specs.Slots.{slotWords, wordsOf, keyOf, valueOf}
 use Rattle.recovery.specs.Map.{Pair}
-use Rattle.bitcask.specs.declared.status.Sum.{Sum}
-use Rattle.bitcask.specs.declared.status.Sum.the-variants.{Total, Over}
+use Rattle.compaction.specs.declared.status.Sum.{Sum}
+use Rattle.compaction.specs.declared.status.Sum.the-variants.{Total, Over}
 use Rattle.bitcask.specs.Append.{slotOf, sizeAll, bytesAll}
 
 -- the entries of a map, in key order
 unfoldable pub entriesOf : List Pair → List Entry

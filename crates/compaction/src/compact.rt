@@ -21,9 +21,9 @@ ghost use Rattle.keycode.specs.Limits.{maxLog};
 ghost use Rattle.entry.specs.Entry.{sizeOf};
 ghost use Rattle.keydir.specs.Slots.{slotWords, slotAt, slotsOf};
 ghost use Rattle.recovery.specs.Recover.{view};
 ghost use Rattle.bitcask.specs.Append.{sizeAll};
-ghost use Rattle.bitcask.specs.Compaction.{entriesOf, entryIn, MovedOne, Moved};
-ghost use Rattle.bitcask.specs.Promises.{Compacts};
+ghost use Rattle.compaction.specs.Compaction.{entriesOf, entryIn, MovedOne, Moved};
+ghost use Rattle.compaction.specs.Promises.{Compacts};
 
 // The entry of the i-th slot into the target from index `to` on, and the slot renamed to it; gives the index after it.
 fn move_slot(log: &[u8], table: &mut [u32], i: usize, target: &mut [u8], to: usize) -> usize

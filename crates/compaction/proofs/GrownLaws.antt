@@ -24,10 +24,11 @@ use Rattle.recovery.specs.Promises.{changedNumber}
 use Rattle.recovery.proofs.FoldLaws.{map-rising}
 use Rattle.recovery.proofs.AgreeLaws.{agrees-sound, agrees-room, map-length}
 use Rattle.recovery.proofs.GrowLaws.{Grown, grown-append, grown-more}
 use Rattle.bitcask.specs.Append.{sizeAll, afterAll, appendAnswer}
-use Rattle.bitcask.specs.Compaction.{entriesOf}
-use Rattle.bitcask.specs.Promises.{Changes, changeAnswer, Compacts, compactAnswer}
-use Rattle.bitcask.proofs.PackLaws.{packed-all}
+use Rattle.compaction.specs.Compaction.{entriesOf}
+use Rattle.bitcask.specs.Promises.{Changes, changeAnswer}
+use Rattle.compaction.specs.Promises.{Compacts, compactAnswer}
+use Rattle.compaction.proofs.PackLaws.{packed-all}
 
 -- what an answer of 0 says
 done-says : (log : List ℕ) (used n : ℕ) (e : Entry) → fit (length log) used n ≡ true → changedNumber (changeAnswer log used n (e ∷ [])) ≡ 0

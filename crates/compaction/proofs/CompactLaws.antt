@@ -28,14 +28,14 @@ use Rattle.recovery.specs.Recover.{recovered, live, view, mapOf}
 use Rattle.recovery.specs.Agree.{fit, Agrees}
 use Rattle.recovery.proofs.FoldLaws.{map-rising}
 use Rattle.recovery.proofs.AgreeLaws.{sound-fit, agrees-sound, agrees-slots}
-use Rattle.bitcask.specs.declared.status.Sum.{Sum}
-use Rattle.bitcask.specs.declared.status.Sum.the-variants.{Total, Over}
+use Rattle.compaction.specs.declared.status.Sum.{Sum}
+use Rattle.compaction.specs.declared.status.Sum.the-variants.{Total, Over}
 use Rattle.bitcask.specs.Append.{sizeAll, bytesAll}
-use Rattle.bitcask.specs.Compaction.{entriesOf, capped, placed, Moved}
-use Rattle.bitcask.specs.Promises.{compactAnswer, Compacts}
-use Rattle.bitcask.proofs.LiveLaws.{total-says, over-says, sizes-live, agrees-live}
-use Rattle.bitcask.proofs.MoveLaws.{placed-length, entries-length, moved-words, moved-bytes, moved-past}
-use Rattle.bitcask.proofs.PackLaws.{packed-all}
+use Rattle.compaction.specs.Compaction.{entriesOf, capped, placed, Moved}
+use Rattle.compaction.specs.Promises.{compactAnswer, Compacts}
+use Rattle.compaction.proofs.LiveLaws.{total-says, over-says, sizes-live, agrees-live}
+use Rattle.compaction.proofs.MoveLaws.{placed-length, entries-length, moved-words, moved-bytes, moved-past}
+use Rattle.compaction.proofs.PackLaws.{packed-all}
 
 -- a table of slots and zeros with as many other slots in front is a table of those
 put-table : (n : ℕ) (old ss : List Slot) → length ss ≡ length old → put (tableOf n old) 0 (wordsOf ss) ≡ tableOf n ss

@@ -22,9 +22,9 @@ use Rattle.recovery.specs.Recover.{items, ends, fold, recovered, view, mapOf}
 use Rattle.recovery.proofs.ItemLaws.{item-none, items-stop}
 use Rattle.recovery.proofs.GrowLaws.{Grown, grown-start, grown-append, grown-more}
 use Rattle.recovery.proofs.AgreeLaws.{append-clean, append-slots, append-map}
 use Rattle.bitcask.specs.Append.{slotOf, sizeAll, bytesAll}
-use Rattle.bitcask.specs.Compaction.{entriesOf, placed}
-use Rattle.bitcask.proofs.MoveLaws.{size-append, bytes-length, size-more, placed-more, laid-more}
+use Rattle.compaction.specs.Compaction.{entriesOf, placed}
+use Rattle.compaction.proofs.MoveLaws.{size-append, bytes-length, size-more, placed-more, laid-more}
 
 -- ---- a key above all others goes behind them
 
