@@ -7,15 +7,15 @@ use lib.ListN.{length, take, drop}
 use lib.Seq.{take-at}
 use Rattle.keycode.specs.Limits.{maxKey}
 use Rattle.keycode.specs.Number.{be}
-use Rattle.keycode.specs.Keys.{encode, nextVersion, txnWrite, version, unversioned}
+use Rattle.keys.specs.Keys.{encode, nextVersion, txnWrite, version, unversioned}
 use Rattle.keycode.specs.Prefix.{searched}
-use Rattle.keycode.specs.Promises.{Encodes}
+use Rattle.keys.specs.Promises.{Encodes}
 use Rattle.keycode.specs.declared.refusal.Length.{Length}
 use Rattle.keycode.specs.declared.refusal.Length.the-variants.{Done, Refused}
 use Rattle.keycode.specs.declared.refusal.Refusal.{Refusal}
 use Rattle.keycode.proofs.NumberLaws.{length-be}
 use Rattle.keycode.proofs.StringLaws.{body-bound}
-use Rattle.keycode.proofs.EncodeLaws.{measure-done, version-length, write-length, unversioned-length, searched-length}
+use Rattle.keys.proofs.EncodeLaws.{measure-done, version-length, write-length, unversioned-length, searched-length}
 use Rattle.handle.specs.declared.code.Code.{Code}
 use Rattle.handle.specs.Codes.{keyBytes, Codes, codeOf}
 

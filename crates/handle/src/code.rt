@@ -1,18 +1,18 @@
 // Encoded keys by value, so that a call can hold several at once. A caller tests a user key's length, number 4, before it makes one.
-use keycode::encoding::encode_next_version;
-use keycode::encoding::encode_txn_active;
-use keycode::encoding::encode_txn_active_snapshot;
-use keycode::encoding::encode_txn_write;
-use keycode::encoding::encode_unversioned;
-use keycode::encoding::encode_version;
-use keycode::encoding::encode_version_prefix;
+use keys::encoding::encode_next_version;
+use keys::encoding::encode_txn_active;
+use keys::encoding::encode_txn_active_snapshot;
+use keys::encoding::encode_txn_write;
+use keys::encoding::encode_unversioned;
+use keys::encoding::encode_version;
+use keys::encoding::encode_version_prefix;
 use keycode::limits::KEY_BYTES;
 use keycode::refusal::Length;
 ghost use mathlib.Core.Path.{_≡_};
 ghost use Prim.Native.Nat.{_≤_};
 ghost use lib.ListN.{length};
 ghost use Rattle.keycode.specs.Limits.{maxKey};
-ghost use Rattle.keycode.specs.Keys.{encode, nextVersion, txnActive, txnActiveSnapshot, txnWrite, version as versionKey, unversioned};
+ghost use Rattle.keys.specs.Keys.{encode, nextVersion, txnActive, txnActiveSnapshot, txnWrite, version as versionKey, unversioned};
 ghost use Rattle.keycode.specs.Prefix.{searched};
 ghost use Rattle.handle.specs.Codes.{Codes, codeOf};
 

@@ -4,9 +4,6 @@ pub mod OrderLaws
 pub mod NumberLaws
 pub mod BufferLaws
 pub mod StringLaws
+pub mod WriteLaws
 pub mod PrefixLaws
-pub mod DecodeLaws
-pub mod EncodeLaws
-pub mod KeyLaws
-pub mod KeyOrder
 pub mod Unique

@@ -1,9 +1,9 @@
--- A string of bytes lies in a prefix's range just where it begins with the prefix, and an encoded Version key begins with the bytes that
--- a user prefix is searched as just where its user key begins with the prefix. Assumes nothing.
+-- A string of bytes lies in a prefix's range just where it begins with the prefix, and an escaped string begins with the escaped prefix
+-- just where the string begins with the prefix. Assumes nothing.
 use Prim.Native.Nat.{ℕ, zero, suc, _+_, _-_, _≤_, _<_}
 use mathlib.Core.Path.{_≡_, refl, sym, ap, _∙_}
 use mathlib.Core.Bool.{Bool, true, false}
-use mathlib.Core.Logic.{_⊎_, inl, inr, ⊎-elim}
+use mathlib.Core.Logic.{_⊎_, ⊎-elim}
 use mathlib.Core.List.{List, [], _∷_, _++_, append-assoc}
 use native.Mathlib.Omega.{arith}
 use native.Mathlib.Numerals.{add-one}
@@ -11,16 +11,13 @@ use lib.ListN.{length, take, getD}
 use lib.Seq.{take-suc, length-take-le}
 use lib.Dec.{ltb}
 use borrow.Author.Tests.{ltb-false, lt-ltb, le-ltb}
-use Rattle.keycode.specs.declared.order.Order.{Order}
-use Rattle.keycode.specs.declared.order.Order.the-variants.{Less, Equal, Greater}
+use Rattle.keycode.specs.declared.order.Order.the-variants.{Less, Greater}
 use Rattle.keycode.specs.declared.prefix.End.{End}
 use Rattle.keycode.specs.declared.prefix.End.the-variants.{Unbounded, Raised}
 use Rattle.keycode.specs.Tests.{pick}
-use Rattle.keycode.specs.Order.{compareBytes, compareNat, andThen}
-use Rattle.keycode.specs.Number.{be}
+use Rattle.keycode.specs.Order.{compareBytes}
 use Rattle.keycode.specs.Strings.{escapeByte, escapeBody, escape}
-use Rattle.keycode.specs.Keys.{encode, version}
-use Rattle.keycode.specs.Prefix.{inFront, prefixEnd, Under, searched}
+use Rattle.keycode.specs.Prefix.{inFront, prefixEnd, Under}
 use Rattle.keycode.proofs.Basics.{nope, Ordered, below, same, above, ordered}
 use Rattle.keycode.proofs.OrderLaws.{nat-equal, nat-greater, same-head, less-cases, head-less}
 use Rattle.keycode.proofs.NumberLaws.{Bytes}
@@ -140,10 +137,3 @@ prefix-unescaped (suc x ∷ p) (suc y ∷ s) t u e =
     let q = prefix-unescaped p s t u (cc) in
     let f : suc y ≡ suc x = cc in
     (q .0, cons-both (suc y) (suc x) s (p ++ q .0) f (q .1))
-
--- the same of the encoded Version keys
-pub searched-begins : (p w : List ℕ) (v : ℕ) → encode (version (p ++ w) v) ≡ searched p ++ (escape w ++ be 8 v)
-searched-begins p w v = ap (λ (r : List ℕ). 4 ∷ r) (prefix-escaped p w (be 8 v))
-
-pub searched-only : (p s u : List ℕ) (v : ℕ) → searched p ++ u ≡ encode (version s v) → (w : List ℕ) × (s ≡ p ++ w)
-searched-only p s u v e = prefix-unescaped p s (be 8 v) u (cc)

@@ -6,6 +6,5 @@ pub mod Order
 pub mod Number
 pub mod Buffer
 pub mod Strings
-pub mod Keys
 pub mod Prefix
 pub mod Promises

@@ -6,12 +6,11 @@ use mathlib.Core.List.{List, _++_}
 use lib.ListN.{length, drop}
 use lib.Dec.{leb}
 use Rattle.keycode.specs.Tests.{pick, ifDone}
-use Rattle.keycode.specs.Limits.{maxKey}
 use Rattle.keycode.specs.Refusals.{lengthNumber}
 use Rattle.keycode.specs.Strings.{unescaped, plainLength}
 use Rattle.keycode.specs.declared.refusal.Length.{Length}
 use Rattle.keycode.specs.declared.refusal.Length.the-variants.{Done, Refused}
-use Rattle.keycode.specs.declared.refusal.Refusal.the-variants.{KeyTooLong, BadRequest}
+use Rattle.keycode.specs.declared.refusal.Refusal.the-variants.{BadRequest}
 
 -- bytes e for the lent buffer d: with number 0 they stand at its front and its other bytes stay; with every other number it stays whole
 pub record Writes (a : Length) (e d : List ℕ) (r : Length) (out : List ℕ) : Type 0 where
@@ -21,14 +20,6 @@ pub record Writes (a : Length) (e d : List ℕ) (r : Length) (out : List ℕ) : 
 -- 13 where a buffer of `room` bytes is too short for what was to be written
 unfoldable pub fitted : ℕ → ℕ → Length
 fitted n room = pick (leb n room) (Done n) (Refused BadRequest)
-
--- encoding a key with the user key s (empty where it has none) to the bytes e: 4 over the limit, then 13
-unfoldable pub encodeAnswer : List ℕ → ℕ → ℕ → Length
-unfolding fitted
-encodeAnswer s n room = pick (leb (length s) maxKey) (fitted n room) (Refused KeyTooLong)
-
-abbrev pub Encodes : List ℕ → List ℕ → List ℕ → Length → List ℕ → Type 0
-Encodes s e d r out = Writes (encodeAnswer s (length e) (length d)) e d r out
 
 -- unescaping: 12 where the bytes are escaped badly or their string is over the limit, then 13
 abbrev pub intoRoom : Length → ℕ → Length

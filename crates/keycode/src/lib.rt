@@ -1,8 +1,5 @@
-// The key layer: the order of bytes, big-endian numbers, escaped strings, the six keys of the store and prefix ranges. It is toydb's
-// encoding/keycode.rs and the Key of storage/mvcc.rs, over lent buffers. The limits and the refusals of all layers live here too.
-pub mod decoding;
-pub mod encoding;
-pub mod keys;
+// The bytes of keys: their order, big-endian numbers, escaped strings and prefix ranges. It is toydb's encoding/keycode.rs, over lent
+// buffers. The limits and the refusals of all layers live here too.
 pub mod limits;
 pub mod number;
 pub mod order;
@@ -11,16 +8,6 @@ pub mod prefix;
 pub mod refusal;
 pub mod strings;
 
-pub use decoding::decode;
-pub use encoding::encode_next_version;
-pub use encoding::encode_txn_active;
-pub use encoding::encode_txn_active_snapshot;
-pub use encoding::encode_txn_write;
-pub use encoding::encode_unversioned;
-pub use encoding::encode_version;
-pub use encoding::encode_version_prefix;
-pub use keys::Decoded;
-pub use keys::Key;
 pub use order::Order;
 pub use order::compare;
 pub use parts::Part;

@@ -10,7 +10,7 @@ use lib.ListN.{length, take, drop, drop-of-length-le}
 use lib.Seq.{drop-cons}
 use borrow.Author.Tests.{ne-eqb, eq-eqb}
 use Rattle.keycode.specs.Number.{num}
-use Rattle.keycode.specs.Keys.{encode, nextVersion}
+use Rattle.keys.specs.Keys.{encode, nextVersion}
 use Rattle.keycode.specs.Prefix.{prefixEnd}
 use Rattle.keydir.specs.declared.slots.Slot.{Slot}
 use Rattle.keydir.specs.Slots.{freeSlot, slotWords, slotHead, slotAt, slotsOf, keyOf, valueOf}
@@ -27,11 +27,11 @@ use Rattle.txn.specs.declared.look.Slotted.{Slotted}
 use Rattle.txn.specs.declared.look.Slotted.the-variants as Slots
 use Rattle.txn.specs.declared.range.Span.{Span}
 use Rattle.txn.specs.Looks.{slotOf}
-use Rattle.txn.specs.Ranges.{Spans, slice, endBound, endBytes}
+use Rattle.txn.specs.Ranges.{Spans, slice, endBound, endBytes, activePrefix, prefixIn}
 use Rattle.txn.proofs.RangeLaws.{span-range}
 use Rattle.mvcc_begin.specs.declared.active.Seen.{Seen}
 use Rattle.mvcc_begin.specs.declared.active.Tally.the-variants.{Open}
-use Rattle.mvcc_begin.specs.Active.{nextBy, nextOf, nextIn, activeIn, consRead, versionsIn, keysIn, activePrefix, activeSlots, badSeen, seenFrom, seenBy}
+use Rattle.mvcc_begin.specs.Active.{nextBy, nextOf, nextIn, activeIn, consRead, versionsIn, keysIn, activeSlots, badSeen, seenFrom, seenBy}
 
 -- ---- NextVersion
 
@@ -124,7 +124,7 @@ slots-take (suc k) (suc n) t h = ap (λ (ss : List Slot). slotHead t ∷ ss) (sl
 pub actives-seen : (log t : List ℕ) (n : ℕ) (start : Handle) {r : Span} {q : Seen}
     → Spans log (slotsOf n t) n Included activePrefix (endBound (prefixEnd activePrefix)) (endBytes activePrefix (prefixEnd activePrefix)) r
     → q ≡ seenFrom 0 start (versionsIn (keysIn log (drop (r .from) (slotsOf (r .to) t)))) → q ≡ seenFrom 0 start (versionsIn (keysIn log (activeSlots log (slotsOf n t))))
-unfolding activeSlots slice
+unfolding activeSlots prefixIn slice
 actives-seen log t n start {r} w e =
     e ∙ ap (λ (ss : List Slot). seenFrom 0 start (versionsIn (keysIn log (drop (r .from) ss)))) (sym (slots-take (r .to) n t (w .within .1)))
     ∙ ap (λ (ss : List Slot). seenFrom 0 start (versionsIn (keysIn log ss)))

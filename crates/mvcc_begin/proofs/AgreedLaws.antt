@@ -2,17 +2,17 @@
 use Prim.Native.Nat.{ℕ}
 use mathlib.Core.Path.{_≡_, refl, ap, _∙_}
 use mathlib.Core.List.{List, [], _∷_}
-use Rattle.keycode.specs.Keys.{encode, nextVersion}
+use Rattle.keys.specs.Keys.{encode, nextVersion}
 use Rattle.keycode.proofs.NumberLaws.{Bytes}
 use Rattle.keydir.specs.declared.slots.Slot.{Slot}
 use Rattle.keydir.specs.Slots.{slotsOf, keyOf}
 use Rattle.keydir.specs.Place.{countOf}
 use Rattle.recovery.specs.Recover.{recovered, view, mapOf}
 use Rattle.recovery.specs.Agree.{Agrees}
-use Rattle.txn.specs.Ranges.{begins, keep, prefixIn}
+use Rattle.txn.specs.Ranges.{begins, keep, prefixIn, activePrefix}
 use Rattle.txn.proofs.LookLaws.{slot-shows}
 use Rattle.txn.proofs.RangeLaws.{keep-map, prefix-agrees}
-use Rattle.mvcc_begin.specs.Active.{nextOf, nextIn, nextAt, versionsIn, keysIn, keysOf, activePrefix, activeSlots, activeKeys, activeAt}
+use Rattle.mvcc_begin.specs.Active.{nextOf, nextIn, nextAt, versionsIn, keysIn, keysOf, activeSlots, activeKeys, activeAt}
 
 keys-view : (log : List ℕ) (ss : List Slot) → keysIn log ss ≡ keysOf (view log ss)
 unfolding keysIn keysOf view

@@ -9,7 +9,7 @@ use lib.ListN.{length, take}
 use borrow.Author.Tests.{le-leb, lt-leb}
 use Rattle.keycode.specs.Tests.{pick, ifDone}
 use Rattle.keycode.specs.Refusals.{numberOf}
-use Rattle.keycode.specs.Keys.{encode, txnActiveSnapshot}
+use Rattle.keys.specs.Keys.{encode, txnActiveSnapshot}
 use Rattle.keycode.specs.declared.refusal.Refusal.{Refusal}
 use Rattle.keycode.specs.declared.refusal.Refusal.the-variants.{TooManyOpen, NoSuchVersion, BadStore, BadRequest}
 use Rattle.keycode.proofs.Basics.{nope}
@@ -32,9 +32,10 @@ use Rattle.txn.specs.declared.look.Slotted.{Slotted}
 use Rattle.txn.specs.declared.look.Slotted.the-variants as Slots
 use Rattle.txn.specs.Looks.{slotOf, slotValue}
 use Rattle.txn.proofs.LookLaws.{slot-shows}
-use Rattle.mvcc_begin.specs.declared.answers.Begun.{Begun}
+use Rattle.txn.specs.declared.begun.Begun.{Begun}
 use Rattle.mvcc_begin.specs.Active.{nextIn}
-use Rattle.mvcc_begin.specs.Begins.{refusedBy, begunWith, snapshotRead, asOfWith, asOfBy}
+use Rattle.txn.specs.Given.{refusedBy, begunWith}
+use Rattle.mvcc_begin.specs.Begins.{snapshotRead, asOfWith, asOfBy}
 use Rattle.mvcc_begin.specs.Promises.{begunNumber, BeginsAsOf}
 use Rattle.mvcc_begin.proofs.AgreedLaws.{next-agrees}
 

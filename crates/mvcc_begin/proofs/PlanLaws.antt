@@ -8,7 +8,7 @@ use lib.ListN.{length, take, drop, drop-of-length-le}
 use lib.Seq.{take-at, length-take-le}
 use Rattle.keycode.specs.Number.{be}
 use Rattle.keycode.specs.Buffer.{put}
-use Rattle.keycode.specs.Keys.{encode, nextVersion, txnActive, txnActiveSnapshot}
+use Rattle.keys.specs.Keys.{encode, nextVersion, txnActive, txnActiveSnapshot}
 use Rattle.keycode.specs.declared.refusal.Refusal.{Refusal}
 use Rattle.keycode.proofs.NumberLaws.{length-be}
 use Rattle.keycode.proofs.BufferLaws.{put-front}
@@ -28,12 +28,12 @@ use Rattle.handle.specs.declared.handle.Handle.{Handle}
 use Rattle.handle.specs.Codes.{Codes}
 use Rattle.handle.specs.Handles.{setOf}
 use Rattle.handle.specs.Payloads.{setBytes}
-use Rattle.txn.specs.Lists.{appendedAll, roomAll, freshAll}
+use Rattle.txn.specs.Lists.{appendedAll, roomAll, freshAll, judgeAll}
 use Rattle.txn.proofs.ListLaws.{all-used, all-size, all-count, all-append, size-append}
 use Rattle.txn.proofs.FitLaws.{judge-says}
-use Rattle.mvcc_begin.specs.declared.answers.Begun.{Begun}
-use Rattle.mvcc_begin.specs.Plan.{nextEntry, ownEntry, snapshotBy, planBy, judgeAll, Starts}
-use Rattle.mvcc_begin.specs.Begins.{refusedBy, begunWith}
+use Rattle.txn.specs.declared.begun.Begun.{Begun}
+use Rattle.mvcc_begin.specs.Plan.{nextEntry, ownEntry, snapshotBy, planBy, Starts}
+use Rattle.txn.specs.Given.{refusedBy, begunWith}
 
 code-len : {c : Code} {e : List ℕ} → Codes c e → c .len ≡ length e
 code-len {c} w = sym (length-take-le (c .len) (c .bytes) (omega (arith, w .whole, w .within))) ∙ ap length (w .says)
@@ -125,12 +125,12 @@ module _ (log : List ℕ) (ss : List Slot) where
 -- ---- the judgement
 
 pub judged-plan : (s : State) (k v : ℕ) (p : List ℕ) {room : Room} {n : ℕ} {x : Check} → room ≡ roomAll (Left (length (s .log) - s .used)) (planBy k v p)
-    → n ≡ freshAll (s .log) (planBy k v []) (slotsOf (s .count) (s .table)) → x ≡ judge room n (length (s .table) / slotWords - s .count) → x ≡ judgeAll s (planBy k v p)
+    → n ≡ freshAll (s .log) (planBy k v []) (slotsOf (s .count) (s .table)) → x ≡ judge room n (length (s .table) / slotWords - s .count) → x ≡ judgeAll (s .log) (s .used) (s .table) (s .count) (planBy k v p)
 unfolding judgeAll
 judged-plan s k v p er en ex =
     ex ∙ (λ j. judge (er j) ((en ∙ fresh-any (s .log) (slotsOf (s .count) (s .table)) k v p) j) (length (s .table) / slotWords - s .count))
 
-pub judged-room : (s : State) (es : List Entry) {x : Check} → x ≡ judgeAll s es → x ≡ Fine → s .used ≤ length (s .log) → s .used + sizeAll es ≤ length (s .log)
+pub judged-room : (s : State) (es : List Entry) {x : Check} → x ≡ judgeAll (s .log) (s .used) (s .table) (s .count) es → x ≡ Fine → s .used ≤ length (s .log) → s .used + sizeAll es ≤ length (s .log)
 unfolding judgeAll
 judged-room s es e f h =
     omega (arith, judge-says es (length (s .log) - s .used) (freshAll (s .log) es (slotsOf (s .count) (s .table))) (length (s .table) / slotWords - s .count) (sym e ∙ f) .0)
@@ -180,15 +180,15 @@ plan-written s k v p ea eb ec =
 
 -- ---- judged, then written
 
-module _ (s : State) (k : ℕ) (h : Handle) {p : List ℕ} (ep : p ≡ setBytes (setOf h)) {x : Check} (ex : x ≡ judgeAll s (planBy k (h .version) p)) {r : Begun} where
+module _ (s : State) (k : ℕ) (h : Handle) {p : List ℕ} (ep : p ≡ setBytes (setOf h)) {x : Check} (ex : x ≡ judgeAll (s .log) (s .used) (s .table) (s .count) (planBy k (h .version) p)) {r : Begun} where
   pub start-refused : (y : Refusal) → x ≡ Refused y → r ≡ refusedBy y → Starts s (planBy k (h .version) (setBytes (setOf h))) h r (s .log) (s .table)
   start-refused y e q =
-      let z : judgeAll s (planBy k (h .version) (setBytes (setOf h))) ≡ Refused y = ap (λ (b : List ℕ). judgeAll s (planBy k (h .version) b)) (sym ep) ∙ sym ex ∙ e in
+      let z : judgeAll (s .log) (s .used) (s .table) (s .count) (planBy k (h .version) (setBytes (setOf h))) ≡ Refused y = ap (λ (b : List ℕ). judgeAll (s .log) (s .used) (s .table) (s .count) (planBy k (h .version) b)) (sym ep) ∙ sym ex ∙ e in
       record { answer = q ∙ rw z; log = rw z; table = rw z }
 
   pub start-done : {s′ : State} → x ≡ Fine → s′ ≡ appendedAll s (planBy k (h .version) p) → r ≡ begunWith (s′ .used) h → Starts s (planBy k (h .version) (setBytes (setOf h))) h r (s′ .log) (s′ .table)
   start-done {s′} e es q =
-      let z : judgeAll s (planBy k (h .version) (setBytes (setOf h))) ≡ Fine = ap (λ (b : List ℕ). judgeAll s (planBy k (h .version) b)) (sym ep) ∙ sym ex ∙ e in
+      let z : judgeAll (s .log) (s .used) (s .table) (s .count) (planBy k (h .version) (setBytes (setOf h))) ≡ Fine = ap (λ (b : List ℕ). judgeAll (s .log) (s .used) (s .table) (s .count) (planBy k (h .version) b)) (sym ep) ∙ sym ex ∙ e in
       let w : s′ ≡ appendedAll s (planBy k (h .version) (setBytes (setOf h))) = es ∙ ap (λ (b : List ℕ). appendedAll s (planBy k (h .version) b)) ep in
       record {
         answer = q ∙ ap (λ (n : ℕ). begunWith n h) (ap (λ (y : State). y .used) w ∙ all-used s (planBy k (h .version) (setBytes (setOf h)))) ∙ rw z;

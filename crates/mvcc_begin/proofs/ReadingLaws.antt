@@ -25,9 +25,10 @@ use Rattle.handle.proofs.HandleLaws.{made-all}
 use Rattle.mvcc_begin.specs.declared.active.Seen.{Seen}
 use Rattle.mvcc_begin.specs.declared.active.Tally.{Tally}
 use Rattle.mvcc_begin.specs.declared.active.Tally.the-variants.{Open, Bad}
-use Rattle.mvcc_begin.specs.declared.answers.Begun.{Begun}
+use Rattle.txn.specs.declared.begun.Begun.{Begun}
 use Rattle.mvcc_begin.specs.Active.{nextIn, versionsIn, keysIn, activeSlots, seenFrom, seenBy}
-use Rattle.mvcc_begin.specs.Begins.{refusedBy, begunWith, readingBy}
+use Rattle.txn.specs.Given.{refusedBy, begunWith}
+use Rattle.mvcc_begin.specs.Begins.{readingBy}
 use Rattle.mvcc_begin.specs.Promises.{begunNumber, BeginsReading}
 use Rattle.mvcc_begin.proofs.AgreedLaws.{next-agrees, active-agrees}
 

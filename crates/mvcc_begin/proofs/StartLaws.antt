@@ -17,11 +17,12 @@ use Rattle.keycode.specs.declared.refusal.Refusal.the-variants.{LogFull, TableF
 use Rattle.keycode.proofs.Basics.{nope}
 use Rattle.keycode.proofs.BufferLaws.{refused-stays}
 use Rattle.keycode.proofs.NumberLaws.{Bytes}
-use Rattle.keycode.specs.Keys.{encode, txnActiveSnapshot}
+use Rattle.keys.specs.Keys.{encode, txnActiveSnapshot}
 use Rattle.entry.specs.Entry.{Entry, set as setEntry}
 use Rattle.keydir.specs.Slots.{slotWords, slotsOf}
 use Rattle.keydir.specs.Place.{countOf, all-none, all-more}
 use Rattle.keydir.proofs.CountLaws.{count-within}
+use Rattle.recovery.specs.declared.request.Used.{Used}
 use Rattle.recovery.specs.declared.request.Changed.{Changed}
 use Rattle.recovery.specs.declared.request.Changed.the-variants as Change
 use Rattle.recovery.specs.Map.{Pair}
@@ -40,15 +41,17 @@ use Rattle.handle.specs.Handles.{setOf, handleOf, blankHandle, withVersion, wit
 use Rattle.handle.specs.Payloads.{setBytes}
 use Rattle.handle.proofs.HandleLaws.{made-all, made-set}
 use Rattle.handle.proofs.PayloadLaws.{set-long}
-use Rattle.txn.specs.Lists.{appendedAll, roomAll, freshAll, Sets, sets-none, sets-more, Apart, apart-none, apart-more, checkOf}
+use Rattle.txn.specs.Lists.{appendedAll, roomAll, freshAll, Sets, sets-none, sets-more, Apart, apart-none, apart-more, checkOf, judgeAll}
 use Rattle.txn.proofs.ListLaws.{all-log, all-words, append-all, Appends}
 use Rattle.txn.proofs.FitLaws.{sets-fit, sets-judged, answer-fine}
 use Rattle.mvcc_begin.specs.declared.active.Seen.{Seen}
 use Rattle.mvcc_begin.specs.declared.active.Tally.the-variants.{Open, Bad}
-use Rattle.mvcc_begin.specs.declared.answers.Begun.{Begun}
+use Rattle.txn.specs.declared.begun.Begun.{Begun}
 use Rattle.mvcc_begin.specs.Active.{nextIn, versionsIn, keysIn, activeSlots, seenFrom, seenBy, nextAt, activeAt}
-use Rattle.mvcc_begin.specs.Plan.{nextEntry, ownEntry, snapshotBy, planBy, beginPlan, planOf, judgeAll, byCheck, startedBy, Starts}
-use Rattle.mvcc_begin.specs.Begins.{refusedBy, begunBy, beginBy}
+use Rattle.txn.specs.Checks.{onFine}
+use Rattle.mvcc_begin.specs.Plan.{nextEntry, ownEntry, snapshotBy, planBy, beginPlan, planOf, startedBy, Starts}
+use Rattle.txn.specs.Given.{refusedBy}
+use Rattle.mvcc_begin.specs.Begins.{begunBy, beginBy}
 use Rattle.mvcc_begin.specs.Promises.{Begins}
 use Rattle.mvcc_begin.proofs.AgreedLaws.{next-agrees, active-agrees}
 use Rattle.mvcc_begin.proofs.PlanLaws.{judged-room}
@@ -152,11 +155,11 @@ openSeen log n t = versionsIn (keysIn log (activeSlots log (slotsOf n t)))
 -- ---- the judgement under agreement
 
 module _ (log : List ℕ) (used : ℕ) (t : List ℕ) (v : ℕ) (vs : List ℕ) (g : Agrees log used t) where
-  judged-is : judgeAll (record { log = log; used = used; table = t; count = countOf t }) (beginPlan v vs) ≡ checkOf (appendAnswer log used (length t) (beginPlan v vs))
+  judged-is : judgeAll log used t (countOf t) (beginPlan v vs) ≡ checkOf (appendAnswer log used (length t) (beginPlan v vs))
   unfolding judgeAll
   judged-is = sets-judged log used t (beginPlan v vs) g (countOf t) refl (plan-sets (length vs) v (setBytes vs)) (plan-apart (length vs) v (setBytes vs))
 
-  module _ (within : used ≤ length log) (e : judgeAll (record { log = log; used = used; table = t; count = countOf t }) (beginPlan v vs) ≡ Fine) where
+  module _ (within : used ≤ length log) (e : judgeAll log used t (countOf t) (beginPlan v vs) ≡ Fine) where
     fine-bounds : (used + sizeAll (beginPlan v vs) ≤ length log) × (length (afterAll (beginPlan v vs) (mapOf log used)) ≤ length t / slotWords)
     fine-bounds = answer-fine log used (length t) (beginPlan v vs) (sym judged-is ∙ e)
 
@@ -181,6 +184,14 @@ again-at used p q w = rw (p, ← q) w
 map-at : (used : ℕ) (l : List ℕ) (m : List Pair) {ps es : List Entry} {u : ℕ} → ps ≡ es → u ≡ used + sizeAll es → mapOf l u ≡ afterAll es m → mapOf l (used + sizeAll ps) ≡ afterAll ps m
 map-at used l m p q w = rw (p, ← q) w
 
+abbrev lenOf : Changed → ℕ
+lenOf (Change.Done u) = u .len
+lenOf (Change.Refused r) = 0
+
+ends-at : (used n : ℕ) {ps es : List Entry} → ps ≡ es → used + sizeAll es ≤ n → (u : Used) → Change.Done (record { len = used + sizeAll es }) ≡ Change.Done u
+    → (u .len ≡ used + sizeAll ps) × (used + sizeAll ps ≤ n)
+ends-at used n p h u e = rw p (sym (ap lenOf e), h)
+
 -- ---- the promise
 
 module _ (log : List ℕ) (used : ℕ) (t : List ℕ) where
@@ -191,6 +202,7 @@ module _ (log : List ℕ) (used : ℕ) (t : List ℕ) where
         bytes = refl;
         words = refl;
         long = refl;
+        ends = λ u z. nope (cc);
         blank = refl;
         bad = rw f;
         answer = λ g. nope (cc (g .sound, f));
@@ -210,6 +222,7 @@ module _ (log : List ℕ) (used : ℕ) (t : List ℕ) where
           bytes = refused-stays x (put log used (bytesAll (planOf blankHandle))) log;
           words = refused-stays x t t;
           long = refl;
+          ends = λ u z. nope (cc);
           blank = refused-stays x blankHandle blankHandle;
           bad = h ∙ rw f;
           answer = λ g. a g ∙ in-map g;
@@ -249,15 +262,15 @@ module _ (log : List ℕ) (used : ℕ) (t : List ℕ) where
             -- by what the plan and the handle are
             by-plan : (v : ℕ) (vs : List ℕ) {r : Begun} {log′ t′ : List ℕ} → length vs ≤ maxOpen
                 → beginBy log used (length t) (nextSeen log n t) (openSeen log n t) ≡ begunBy (appendAnswer log used (length t) (beginPlan v vs)) (handleOf v false vs)
-                → (x : Check) → judgeAll (record { log = log; used = used; table = t; count = countOf t }) (beginPlan v vs) ≡ x
+                → (x : Check) → judgeAll log used t (countOf t) (beginPlan v vs) ≡ x
                 → r ≡ startedBy x (used + sizeAll (beginPlan v vs)) (handleOf v false vs)
-                → log′ ≡ byCheck x (appendedAll (record { log = log; used = used; table = t; count = countOf t }) (beginPlan v vs) .log) log
-                → t′ ≡ byCheck x (appendedAll (record { log = log; used = used; table = t; count = countOf t }) (beginPlan v vs) .table) t → Begins log used t r log′ t′
+                → log′ ≡ onFine x (appendedAll (record { log = log; used = used; table = t; count = countOf t }) (beginPlan v vs) .log) log
+                → t′ ≡ onFine x (appendedAll (record { log = log; used = used; table = t; count = countOf t }) (beginPlan v vs) .table) t → Begins log used t r log′ t′
             by-plan v vs l a (Refused y) j er el et =
                 let w = refused-number y j in
                 rw (el, et) (refuses y (w .0) (w .1) er (λ g. ap (λ (c : Changed). begunBy c (handleOf v false vs)) (sym (check-refused (appendAnswer log used (length t) (beginPlan v vs)) y (sym (judged-is log used t v vs g) ∙ j))) ∙ sym a))
               where
-                refused-number : (y : Refusal) → judgeAll (record { log = log; used = used; table = t; count = countOf t }) (beginPlan v vs) ≡ Refused y → (eqb (numberOf y) 13 ≡ false) × (numberOf y ≡ 0 → ⊥)
+                refused-number : (y : Refusal) → judgeAll log used t (countOf t) (beginPlan v vs) ≡ Refused y → (eqb (numberOf y) 13 ≡ false) × (numberOf y ≡ 0 → ⊥)
                 refused-number y j = unfold judgeAll in judge-number (roomAll (Left (length log - used)) (beginPlan v vs)) (freshAll log (beginPlan v vs) (slotsOf (countOf t) t)) (length t / slotWords - countOf t) y j
             by-plan v vs l a Fine j er el et =
                 let within : used ≤ length log = fit-sound (length log) used (length t) f .within in
@@ -268,6 +281,7 @@ module _ (log : List ℕ) (used : ℕ) (t : List ℕ) where
                   bytes = all-log (record { log = log; used = used; table = t; count = countOf t }) (beginPlan v vs) room ∙ ap (λ (es : List Entry). put log used (bytesAll es)) (sym q);
                   words = refl;
                   long = all-words (record { log = log; used = used; table = t; count = countOf t }) (beginPlan v vs) (count-within t);
+                  ends = ends-at used (length log) q room;
                   blank = refl;
                   bad = rw f;
                   answer = λ g. ap (λ (c : Changed). begunBy c (handleOf v false vs)) (fine-answer log used t v vs g within j) ∙ sym a ∙ in-map g;
@@ -281,7 +295,7 @@ module _ (log : List ℕ) (used : ℕ) (t : List ℕ) where
                 let x = opens in
                 let eh = seen-made x few in
                 let ep : planBy k (s .handle .version) (setBytes (setOf (s .handle))) ≡ beginPlan (x .v) (x .vs) = λ j. planBy (x .many j) (seen-version x j) (setBytes (seen-set x few j)) in
-                by-plan (x .v) (x .vs) (omega (arith, x .many)) judged-answer (judgeAll (record { log = log; used = used; table = t; count = countOf t }) (beginPlan (x .v) (x .vs))) refl
-                (w .answer ∙ (λ j. startedBy (judgeAll (record { log = log; used = used; table = t; count = en j }) (ep j)) (used + sizeAll (ep j)) (eh j)))
-                (w .log ∙ (λ j. byCheck (judgeAll (record { log = log; used = used; table = t; count = en j }) (ep j)) (appendedAll (record { log = log; used = used; table = t; count = en j }) (ep j) .log) log))
-                (w .table ∙ (λ j. byCheck (judgeAll (record { log = log; used = used; table = t; count = en j }) (ep j)) (appendedAll (record { log = log; used = used; table = t; count = en j }) (ep j) .table) t))
+                by-plan (x .v) (x .vs) (omega (arith, x .many)) judged-answer (judgeAll log used t (countOf t) (beginPlan (x .v) (x .vs))) refl
+                (w .answer ∙ (λ j. startedBy (judgeAll log used t (en j) (ep j)) (used + sizeAll (ep j)) (eh j)))
+                (w .log ∙ (λ j. onFine (judgeAll log used t (en j) (ep j)) (appendedAll (record { log = log; used = used; table = t; count = en j }) (ep j) .log) log))
+                (w .table ∙ (λ j. onFine (judgeAll log used t (en j) (ep j)) (appendedAll (record { log = log; used = used; table = t; count = en j }) (ep j) .table) t))

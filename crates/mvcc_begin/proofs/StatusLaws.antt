@@ -24,10 +24,10 @@ use Rattle.handle.specs.declared.payload.VersionRead.{VersionRead}
 use Rattle.handle.specs.declared.payload.VersionRead.the-variants.{Read, Bad}
 use Rattle.handle.specs.Payloads.{versionIn}
 use Rattle.txn.specs.declared.range.Span.{Span}
-use Rattle.txn.specs.Ranges.{Spans, slice, endBound, endBytes}
+use Rattle.txn.specs.Ranges.{Spans, slice, endBound, endBytes, activePrefix, prefixIn}
 use Rattle.txn.proofs.RangeLaws.{span-range}
 use Rattle.mvcc_begin.specs.declared.status.Stated.the-variants.{Done, Refused}
-use Rattle.mvcc_begin.specs.Active.{nextBy, nextOf, nextIn, nextAt, keysIn, activePrefix, activeSlots, activeKeys}
+use Rattle.mvcc_begin.specs.Active.{nextBy, nextOf, nextIn, nextAt, keysIn, activeSlots, activeKeys}
 use Rattle.mvcc_begin.specs.Promises.{States}
 use Rattle.mvcc_begin.proofs.AgreedLaws.{next-agrees, keys-agree}
 
@@ -36,7 +36,7 @@ use Rattle.mvcc_begin.proofs.AgreedLaws.{next-agrees, keys-agree}
 module _ (log t : List ℕ) (n : ℕ) {r : Span}
     (w : Spans log (slotsOf n t) n Included activePrefix (endBound (prefixEnd activePrefix)) (endBytes activePrefix (prefixEnd activePrefix)) r) where
   span-count : length (activeSlots log (slotsOf n t)) ≡ r .to - r .from
-  unfolding activeSlots slice
+  unfolding activeSlots prefixIn slice
   span-count =
       sym (ap length (span-range Included activePrefix (endBound (prefixEnd activePrefix)) (endBytes activePrefix (prefixEnd activePrefix)) log w))
       ∙ simp (length-drop, length-take) (omega (arith, slots-length n t, w .within .1))

@@ -7,7 +7,7 @@ use Rattle.keycode.specs.Buffer.{put}
 use Rattle.recovery.specs.Agree.{Agrees}
 use Rattle.recovery.proofs.AgreeLaws.{agrees-unique}
 use Rattle.bitcask.specs.Append.{sizeAll, bytesAll}
-use Rattle.mvcc_begin.specs.declared.answers.Begun.{Begun}
+use Rattle.txn.specs.declared.begun.Begun.{Begun}
 use Rattle.mvcc_begin.specs.declared.status.Stated.{Stated}
 use Rattle.mvcc_begin.specs.Plan.{planOf}
 use Rattle.mvcc_begin.specs.Promises.{begunNumber, BeginsReading, Begins, BeginsAsOf, States}

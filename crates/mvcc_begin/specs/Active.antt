@@ -7,19 +7,17 @@ use lib.Dec.{eqb}
 use lib.ListN.{length, take, drop}
 use Rattle.keycode.specs.Tests.{pick}
 use Rattle.keycode.specs.Number.{num}
-use Rattle.keycode.specs.Keys.{encode, nextVersion}
-use Rattle.keycode.specs.Prefix.{prefixEnd}
+use Rattle.keys.specs.Keys.{encode, nextVersion}
 use Rattle.keydir.specs.declared.slots.Slot.{Slot}
 use Rattle.keydir.specs.Slots.{keyOf}
 use Rattle.recovery.specs.Map.{Pair, lookIn}
-use Rattle.bitcask.specs.declared.answers.Bound.the-variants.{Included}
 use Rattle.handle.specs.declared.handle.Handle.{Handle}
 use Rattle.handle.specs.declared.payload.VersionRead.{VersionRead}
 use Rattle.handle.specs.declared.payload.VersionRead.the-variants.{Read, Bad as BadVersion}
 use Rattle.handle.specs.Handles.{handleOf, blankHandle, withAll}
 use Rattle.handle.specs.Payloads.{versionIn}
 use Rattle.txn.specs.Looks.{slotOf, slotValue}
-use Rattle.txn.specs.Ranges.{begins, pairsOf, rangeIn, endBound, endBytes}
+use Rattle.txn.specs.Ranges.{begins, pairsOf, prefixIn, activePrefix}
 use Rattle.mvcc_begin.specs.declared.active.Seen.{Seen}
 use Rattle.mvcc_begin.specs.declared.active.Tally.the-variants.{Open, Bad}
 
@@ -66,13 +64,9 @@ unfoldable pub keysOf : List Pair → List (List ℕ)
 keysOf [] = []
 keysOf (q ∷ m) = q .key ∷ keysOf m
 
--- what every TxnActive key begins with
-abbrev pub activePrefix : List ℕ
-activePrefix = 1 ∷ []
-
--- the slots whose keys begin so, by numbers
+-- the slots whose keys begin as every TxnActive key does, by numbers
 unfoldable pub activeSlots : List ℕ → List Slot → List Slot
-activeSlots log ss = rangeIn Included activePrefix (endBound (prefixEnd activePrefix)) (endBytes activePrefix (prefixEnd activePrefix)) log ss
+activeSlots log ss = prefixIn activePrefix log ss
 
 -- the keys of a map that begin so
 unfoldable pub activeKeys : List Pair → List (List ℕ)

@@ -7,7 +7,6 @@ use lib.Dec.{leb, eqb}
 use lib.ListN.{length}
 use Rattle.keycode.specs.Tests.{pick}
 use Rattle.keycode.specs.Limits.{maxOpen}
-use Rattle.keycode.specs.declared.refusal.Refusal.{Refusal}
 use Rattle.keycode.specs.declared.refusal.Refusal.the-variants.{TooManyOpen, NoSuchVersion, VersionsSpent, BadStore}
 use Rattle.recovery.specs.declared.request.Changed.{Changed}
 use Rattle.recovery.specs.declared.request.Changed.the-variants.{Done, Refused}
@@ -18,16 +17,11 @@ use Rattle.handle.specs.declared.payload.VersionRead.the-variants.{Read, Bad}
 use Rattle.handle.specs.declared.payload.SetAnswer.{SetAnswer}
 use Rattle.handle.specs.declared.payload.SetAnswer.the-variants as SetAnswers
 use Rattle.handle.specs.declared.payload.SetRead.{SetRead}
-use Rattle.handle.specs.Handles.{handleOf, blankHandle}
+use Rattle.handle.specs.Handles.{handleOf}
 use Rattle.handle.specs.Payloads.{setIn, setFor}
-use Rattle.mvcc_begin.specs.declared.answers.Begun.{Begun}
+use Rattle.txn.specs.declared.begun.Begun.{Begun}
+use Rattle.txn.specs.Given.{refusedBy, begunWith}
 use Rattle.mvcc_begin.specs.Plan.{beginPlan}
-
-abbrev pub refusedBy : Refusal → Begun
-refusedBy r = record { answer = Refused r; handle = blankHandle }
-
-abbrev pub begunWith : ℕ → Handle → Begun
-begunWith used h = record { answer = Done (record { len = used }); handle = h }
 
 -- ---- read-only: 12 for NextVersion or a key of the open versions, then 9 with over 16 open; nothing is appended
 

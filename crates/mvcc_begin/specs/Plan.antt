@@ -1,21 +1,20 @@
 -- What a begin appends, and how it is judged. Document 01, 'Transactions'. Assumes nothing.
-use Prim.Native.Nat.{ℕ, zero, suc, _+_, _-_, _/_}
+use Prim.Native.Nat.{ℕ, zero, suc, _+_, _-_}
 use mathlib.Core.Path.{_≡_}
 use mathlib.Core.List.{List, [], _∷_, _++_}
 use lib.ListN.{length}
-use Rattle.keycode.specs.Keys.{encode, nextVersion, txnActive, txnActiveSnapshot}
+use Rattle.keys.specs.Keys.{encode, nextVersion, txnActive, txnActiveSnapshot}
 use Rattle.entry.specs.Entry.{Entry, set}
-use Rattle.keydir.specs.Slots.{slotWords, slotsOf}
-use Rattle.recovery.specs.declared.request.Changed.the-variants as Change
-use Rattle.bitcask.specs.declared.append.Room.the-variants.{Left}
 use Rattle.bitcask.specs.declared.append.Check.{Check}
 use Rattle.bitcask.specs.declared.append.Check.the-variants.{Fine, Refused}
-use Rattle.bitcask.specs.Append.{State, judge, sizeAll}
+use Rattle.bitcask.specs.Append.{State, sizeAll}
 use Rattle.handle.specs.declared.handle.Handle.{Handle}
-use Rattle.handle.specs.Handles.{setOf, blankHandle}
+use Rattle.handle.specs.Handles.{setOf}
 use Rattle.handle.specs.Payloads.{versionBytes, setBytes}
-use Rattle.txn.specs.Lists.{appendedAll, roomAll, freshAll}
-use Rattle.mvcc_begin.specs.declared.answers.Begun.{Begun}
+use Rattle.txn.specs.Checks.{onFine}
+use Rattle.txn.specs.Lists.{appendedAll, judgeAll}
+use Rattle.txn.specs.Given.{refusedBy, begunWith}
+use Rattle.txn.specs.declared.begun.Begun.{Begun}
 
 -- ---- the entries of version v
 
@@ -43,19 +42,12 @@ planOf h = beginPlan (h .version) (setOf h)
 
 -- ---- as the code does it, for any table
 
-unfoldable pub judgeAll : State → List Entry → Check
-judgeAll s es = judge (roomAll (Left (length (s .log) - s .used)) es) (freshAll (s .log) es (slotsOf (s .count) (s .table))) (length (s .table) / slotWords - s .count)
-
-abbrev pub byCheck : {A : Type 0} → Check → A → A → A
-byCheck Fine a b = a
-byCheck (Refused r) a b = b
-
 abbrev pub startedBy : Check → ℕ → Handle → Begun
-startedBy Fine used h = record { answer = Change.Done (record { len = used }); handle = h }
-startedBy (Refused r) used h = record { answer = Change.Refused r; handle = blankHandle }
+startedBy Fine used h = begunWith used h
+startedBy (Refused r) used h = refusedBy r
 
 -- the entries judged, and appended where they fit
 pub record Starts (s : State) (es : List Entry) (h : Handle) (r : Begun) (log′ t′ : List ℕ) : Type 0 where
-  pub answer : r ≡ startedBy (judgeAll s es) (s .used + sizeAll es) h
-  pub log : log′ ≡ byCheck (judgeAll s es) (appendedAll s es .log) (s .log)
-  pub table : t′ ≡ byCheck (judgeAll s es) (appendedAll s es .table) (s .table)
+  pub answer : r ≡ startedBy (judgeAll (s .log) (s .used) (s .table) (s .count) es) (s .used + sizeAll es) h
+  pub log : log′ ≡ onFine (judgeAll (s .log) (s .used) (s .table) (s .count) es) (appendedAll s es .log) (s .log)
+  pub table : t′ ≡ onFine (judgeAll (s .log) (s .used) (s .table) (s .count) es) (appendedAll s es .table) (s .table)

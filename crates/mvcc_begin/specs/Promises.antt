@@ -1,6 +1,6 @@
 -- What each call promises, in three parts. Always: what a refusal leaves. Request: the numbers that need no table, exactly in their
 -- cases. Agreed: where the table agrees with the log, the answer and every byte are the map's. Assumes nothing.
-use Prim.Native.Nat.{ℕ, _+_, _-_}
+use Prim.Native.Nat.{ℕ, _+_, _-_, _≤_}
 use mathlib.Core.Path.{_≡_}
 use mathlib.Core.Bool.{not}
 use mathlib.Core.List.{List}
@@ -10,7 +10,9 @@ use Rattle.keycode.specs.Tests.{ifDone}
 use Rattle.keycode.specs.Refusals.{numberOf}
 use Rattle.keycode.specs.declared.refusal.Refusal.the-variants.{BadStore}
 use Rattle.keycode.specs.Buffer.{put}
-use Rattle.keycode.specs.Keys.{encode, txnActiveSnapshot}
+use Rattle.keys.specs.Keys.{encode, txnActiveSnapshot}
+use Rattle.recovery.specs.declared.request.Used.{Used}
+use Rattle.recovery.specs.declared.request.Changed.the-variants.{Done}
 use Rattle.recovery.specs.Map.{lookIn}
 use Rattle.recovery.specs.Recover.{mapOf}
 use Rattle.recovery.specs.Agree.{fit, Agrees}
@@ -19,7 +21,7 @@ use Rattle.bitcask.specs.Append.{sizeAll, bytesAll, afterAll}
 use Rattle.handle.specs.declared.payload.VersionRead.{VersionRead}
 use Rattle.handle.specs.declared.payload.VersionRead.the-variants.{Read, Bad}
 use Rattle.handle.specs.Handles.{blankHandle}
-use Rattle.mvcc_begin.specs.declared.answers.Begun.{Begun}
+use Rattle.txn.specs.declared.begun.Begun.{Begun}
 use Rattle.mvcc_begin.specs.declared.status.Stated.{Stated}
 use Rattle.mvcc_begin.specs.declared.status.Stated.the-variants as Stating
 use Rattle.mvcc_begin.specs.Active.{nextAt, activeKeys, activeAt}
@@ -43,6 +45,7 @@ pub record Begins (log : List ℕ) (used : ℕ) (t : List ℕ) (r : Begun) (log�
   pub bytes : log′ ≡ ifDone (begunNumber r) (put log used (bytesAll (planOf (r .handle)))) log
   pub words : t′ ≡ ifDone (begunNumber r) t′ t
   pub long : length t′ ≡ length t
+  pub ends : (u : Used) → r .answer ≡ Done u → (u .len ≡ used + sizeAll (planOf (r .handle))) × (used + sizeAll (planOf (r .handle)) ≤ length log)
   pub blank : r .handle ≡ ifDone (begunNumber r) (r .handle) blankHandle
   -- request
   pub bad : eqb (begunNumber r) 13 ≡ not (fit (length log) used (length t))

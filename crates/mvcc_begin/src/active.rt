@@ -11,15 +11,12 @@ use keydir::slot_at;
 use keydir::value_of;
 use txn::Slotted;
 use txn::look::slot_of;
-use txn::range::prefix_range;
+use txn::range::active_range;
 ghost use mathlib.Core.Path.{_≡_};
 ghost use Prim.Native.Nat.{_+_, _*_, _≤_};
 ghost use lib.ListN.{length, drop};
 ghost use Rattle.keydir.specs.Slots.{slotWords, slotAt, slotsOf, keyOf};
 ghost use Rattle.mvcc_begin.specs.Active.{nextBy, nextIn, activeIn, keysIn, versionsIn, activeSlots, badSeen, seenFrom, seenBy};
-
-// The first byte of a TxnActive key.
-pub const ACTIVE_TAG: u8 = 1;
 
 // How many versions are open, or that a key is none of theirs.
 pub enum Tally {
@@ -121,8 +118,7 @@ fn actives(log: &[u8], table: &[u32], count: usize, start: Handle) -> Seen
     requires { ⌜ slotWords * count ≤ length (now table) ⌝ }
     ensures { λ r. ⌜ r ≡ seenFrom 0 start (versionsIn (keysIn (now (log .entry)) (activeSlots (now (log .entry)) (slotsOf count (now (table .entry)))))) ⌝ }
 {
-    let prefix = [ACTIVE_TAG; 1];
-    let span = prefix_range(log, table, count, &prefix);
+    let span = active_range(log, table, count);
     gather(log, table, span.from, span.to, start)
 }
 

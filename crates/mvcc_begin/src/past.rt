@@ -1,8 +1,8 @@
 // As-of: a read-only handle of a version that was given, with the snapshot stored at its begin.
 use crate::active::next_version;
-use crate::answers::Begun;
-use crate::answers::given;
-use crate::answers::refused;
+use txn::begun::Begun;
+use txn::begun::given;
+use txn::begun::refused;
 use handle::Handle;
 use handle::SetAnswer;
 use handle::SetRead;
@@ -19,7 +19,7 @@ use txn::look::slot_of;
 ghost use mathlib.Core.Path.{_≡_};
 ghost use Prim.Native.Nat.{_*_, _≤_};
 ghost use lib.ListN.{length};
-ghost use Rattle.keycode.specs.Keys.{encode, txnActiveSnapshot};
+ghost use Rattle.keys.specs.Keys.{encode, txnActiveSnapshot};
 ghost use Rattle.keydir.specs.Slots.{slotWords, slotsOf};
 ghost use Rattle.txn.specs.Looks.{slotOf, slotValue};
 ghost use Rattle.mvcc_begin.specs.Begins.{snapshotRead};

@@ -20,8 +20,8 @@ ghost use lib.ListN.{length};
 ghost use Rattle.keycode.specs.Limits.{maxLog};
 ghost use Rattle.keydir.specs.Slots.{slotWords, slotsOf};
 ghost use Rattle.bitcask.specs.Append.{State, sizeAll};
-ghost use Rattle.txn.specs.Lists.{appendedAll, roomAll, freshAll};
-ghost use Rattle.mvcc_begin.specs.Plan.{nextEntry, snapshotBy, ownEntry, planBy, judgeAll};
+ghost use Rattle.txn.specs.Lists.{appendedAll, roomAll, freshAll, judgeAll};
+ghost use Rattle.mvcc_begin.specs.Plan.{nextEntry, snapshotBy, ownEntry, planBy};
 
 fn room_snapshot(room: Room, open: usize, version: u64, set: &[u8]) -> Room
     ensures { λ r. ⌜ r ≡ roomAll room (snapshotBy «open» version (now (set .entry))) ⌝ }
@@ -84,7 +84,7 @@ pub fn judge_start(
     set: &[u8],
 ) -> Check
     requires { ⌜ (mark .used ≤ length (now log)) × (slotWords * mark .count ≤ length (now table)) ⌝ }
-    ensures { λ r. ⌜ r ≡ judgeAll (record { log = now (log .entry); used = mark .used; table = now (table .entry); count = mark .count }) (planBy «open» version (now (set .entry))) ⌝ }
+    ensures { λ r. ⌜ r ≡ judgeAll (now (log .entry)) (mark .used) (now (table .entry)) (mark .count) (planBy «open» version (now (set .entry))) ⌝ }
 {
     let used = mark.used;
     let count = mark.count;

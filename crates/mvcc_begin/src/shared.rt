@@ -1,9 +1,9 @@
 // Begin in its read-only form, which appends nothing.
 use crate::active::Tally;
 use crate::active::look_round;
-use crate::answers::Begun;
-use crate::answers::given;
-use crate::answers::refused;
+use txn::begun::Begun;
+use txn::begun::given;
+use txn::begun::refused;
 use keycode::Refusal;
 use keycode::limits::MAX_OPEN;
 use keydir::count;

@@ -1,9 +1,9 @@
 // Begin.
 use crate::active::Tally;
 use crate::active::look_round;
-use crate::answers::Begun;
-use crate::answers::given;
-use crate::answers::refused;
+use txn::begun::Begun;
+use txn::begun::given;
+use txn::begun::refused;
 use crate::plan::judge_start;
 use crate::plan::write_start;
 use bitcask::append::Check;

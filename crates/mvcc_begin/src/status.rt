@@ -1,12 +1,11 @@
 // The transactions' status: the last version given, and how many keys say that one is open, decodable or not.
-use crate::active::ACTIVE_TAG;
 use crate::active::next_version;
 use handle::VersionRead;
 use keycode::Refusal;
 use keydir::count;
 use recovery::Used;
 use recovery::request::fits;
-use txn::range::prefix_range;
+use txn::range::active_range;
 ghost use mathlib.Core.Path.{_≡_};
 ghost use Prim.Native.Nat.{_*_, _≤_};
 ghost use lib.ListN.{length};
@@ -30,8 +29,7 @@ fn open_count(log: &[u8], table: &[u32], count: usize) -> usize
     requires { ⌜ slotWords * count ≤ length (now table) ⌝ }
     ensures { λ r. ⌜ r ≡ length (activeSlots (now (log .entry)) (slotsOf count (now (table .entry)))) ⌝ }
 {
-    let prefix = [ACTIVE_TAG; 1];
-    let span = prefix_range(log, table, count, &prefix);
+    let span = active_range(log, table, count);
     if span.to <= span.from {
         return 0;
     }

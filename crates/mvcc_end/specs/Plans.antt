@@ -7,11 +7,11 @@ use lib.ListN.{take, drop}
 use Rattle.keycode.specs.Tests.{pick}
 use Rattle.keycode.specs.Limits.{maxKey}
 use Rattle.keycode.specs.Strings.{unescaped}
-use Rattle.keycode.specs.Keys.{encode, version, decodeWhy, forget}
-use Rattle.keycode.specs.declared.keys.Key.{Key}
-use Rattle.keycode.specs.declared.keys.Key.the-variants.{NextVersion, TxnActive, TxnActiveSnapshot, TxnWrite, Version, Unversioned}
-use Rattle.keycode.specs.declared.keys.Decoded.{Decoded}
-use Rattle.keycode.specs.declared.keys.Decoded.the-variants.{Whole, Refused}
+use Rattle.keys.specs.Keys.{encode, version, decodeWhy, forget}
+use Rattle.keys.specs.declared.keys.Key.{Key}
+use Rattle.keys.specs.declared.keys.Key.the-variants.{NextVersion, TxnActive, TxnActiveSnapshot, TxnWrite, Version, Unversioned}
+use Rattle.keys.specs.declared.keys.Decoded.{Decoded}
+use Rattle.keys.specs.declared.keys.Decoded.the-variants.{Whole, Refused}
 use Rattle.entry.specs.Entry.{Entry, del}
 use Rattle.recovery.specs.Map.{Pair}
 use Rattle.handle.specs.declared.handle.Handle.{Handle}

@@ -8,7 +8,7 @@ use lib.ListN.{length, take}
 use borrow.Author.Tests.{le-leb, lt-leb}
 use Rattle.keycode.specs.Tests.{pick}
 use Rattle.keycode.specs.Limits.{maxKey}
-use Rattle.keycode.specs.Keys.{encode, version}
+use Rattle.keys.specs.Keys.{encode, version}
 use Rattle.keycode.specs.declared.refusal.Refusal.{Refusal}
 use Rattle.keycode.specs.declared.refusal.Refusal.the-variants.{KeyTooLong}
 use Rattle.keydir.specs.Slots.{slotsOf}

@@ -1,5 +1,5 @@
 -- What a record says, and the walk down a range, by what the code has learnt. Assumes nothing.
-use Prim.Native.Nat.{ℕ, suc, _+_, _-_, _^_, _≤_, _<_}
+use Prim.Native.Nat.{ℕ, _+_, _-_, _^_, _≤_, _<_}
 use mathlib.Core.Path.{_≡_, refl, sym, ap, _∙_}
 use mathlib.Core.Bool.{Bool, true, false}
 use mathlib.Core.List.{List, [], _∷_, _++_}
@@ -8,12 +8,12 @@ use native.Mathlib.Numerals.{add-one}
 use lib.ListN.{length, take, drop, getD, drop-of-length-le, length-take}
 use lib.Seq.{take-suc, length-take-le, drop-append-le}
 use Rattle.keycode.specs.Limits.{maxKey}
-use Rattle.keycode.specs.Keys.{decodeWhy, forget}
+use Rattle.keys.specs.Keys.{decodeWhy, forget}
 use Rattle.keycode.specs.declared.parts.Part.{Part}
 use Rattle.keycode.specs.declared.refusal.Refusal.{Refusal}
-use Rattle.keycode.specs.declared.keys.Key.{Key}
-use Rattle.keycode.specs.declared.keys.Decoded.{Decoded}
-use Rattle.keycode.specs.declared.keys.Decoded.the-variants.{Whole, Refused}
+use Rattle.keys.specs.declared.keys.Key.{Key}
+use Rattle.keys.specs.declared.keys.Decoded.{Decoded}
+use Rattle.keys.specs.declared.keys.Decoded.the-variants.{Whole, Refused}
 use Rattle.keydir.specs.declared.slots.Slot.{Slot}
 use Rattle.keydir.specs.Slots.{freeSlot, slotAt, slotsOf, keyOf, valueOf}
 use Rattle.keydir.proofs.SlotLaws.{slots-length, slot-at-is}

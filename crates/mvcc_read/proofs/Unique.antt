@@ -5,7 +5,7 @@ use mathlib.Core.List.{List}
 use Rattle.recovery.specs.Agree.{Agrees}
 use Rattle.bitcask.specs.declared.answers.Located.{Located}
 use Rattle.handle.specs.declared.handle.Handle.{Handle}
-use Rattle.mvcc_read.specs.declared.resume.Begun.{Begun}
+use Rattle.txn.specs.declared.begun.Begun.{Begun}
 use Rattle.mvcc_read.specs.Promises.{Gets, GetsUnversioned, Resumes}
 
 pub gets-unique : {log : List ℕ} {used : ℕ} {t : List ℕ} {h : Handle} {key : List ℕ} {r r′ : Located} → Agrees log used t → Gets log used t h key r → Gets log used t h key r′ → r ≡ r′

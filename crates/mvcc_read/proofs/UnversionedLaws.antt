@@ -9,7 +9,7 @@ use lib.ListN.{length, take, drop}
 use borrow.Author.Tests.{le-leb, lt-leb}
 use Rattle.keycode.specs.Tests.{pick}
 use Rattle.keycode.specs.Limits.{maxKey}
-use Rattle.keycode.specs.Keys.{encode, unversioned}
+use Rattle.keys.specs.Keys.{encode, unversioned}
 use Rattle.keycode.specs.declared.refusal.Refusal.the-variants.{Absent, KeyTooLong, BadRequest}
 use Rattle.keycode.specs.declared.parts.Part.{Part}
 use Rattle.keycode.proofs.Basics.{nope}

@@ -12,21 +12,21 @@ use Rattle.keycode.specs.Limits.{maxKey}
 use Rattle.keycode.specs.Number.{be}
 use Rattle.keycode.specs.Strings.{escape, unescaped}
 use Rattle.keycode.specs.Order.{compareNat, compareBytes, andThen}
-use Rattle.keycode.specs.Keys.{Fields, nextVersion, txnActive, txnActiveSnapshot, txnWrite, version, unversioned, encode, tagOf, decodeWhy, forget}
+use Rattle.keys.specs.Keys.{Fields, nextVersion, txnActive, txnActiveSnapshot, txnWrite, version, unversioned, encode, tagOf, decodeWhy, forget}
 use Rattle.keycode.specs.declared.parts.Part.{Part}
-use Rattle.keycode.specs.declared.keys.Key.{Key}
-use Rattle.keycode.specs.declared.keys.Key.the-variants as Keys
-use Rattle.keycode.specs.declared.keys.Decoded.{Decoded}
-use Rattle.keycode.specs.declared.keys.Decoded.the-variants.{Whole, Refused}
-use Rattle.keycode.specs.declared.keys.Reading.{Reading}
-use Rattle.keycode.specs.declared.keys.Reading.the-variants.{Read, Faulty}
+use Rattle.keys.specs.declared.keys.Key.{Key}
+use Rattle.keys.specs.declared.keys.Key.the-variants as Keys
+use Rattle.keys.specs.declared.keys.Decoded.{Decoded}
+use Rattle.keys.specs.declared.keys.Decoded.the-variants.{Whole, Refused}
+use Rattle.keys.specs.declared.keys.Reading.{Reading}
+use Rattle.keys.specs.declared.keys.Reading.the-variants.{Read, Faulty}
 use Rattle.keycode.specs.declared.order.Order.{Order}
 use Rattle.keycode.specs.declared.order.Order.the-variants.{Less, Equal, Greater}
 use Rattle.keycode.proofs.Basics.{nope, Ordered, below, same, above, ordered}
 use Rattle.keycode.proofs.OrderLaws.{nat-less, nat-equal, nat-greater, flip, compare-flip, compare-equal, compare-refl}
 use Rattle.keycode.proofs.NumberLaws.{Bytes}
-use Rattle.keycode.proofs.KeyLaws.{Sound, decode-encode, encode-decode}
-use Rattle.keycode.proofs.KeyOrder.{order-tags, order-version}
+use Rattle.keys.proofs.KeyLaws.{Sound, decode-encode, encode-decode}
+use Rattle.keys.proofs.KeyOrder.{order-tags, order-version}
 use Rattle.bitcask.specs.declared.answers.Bound.the-variants.{Included}
 use Rattle.bitcask.specs.Ranks.{admitsLow, admitsHigh}
 use Rattle.handle.specs.declared.payload.VersionRead.the-variants as Version

@@ -10,10 +10,10 @@ use lib.ListN.{length}
 use Rattle.keycode.specs.Tests.{pick, ifDone}
 use Rattle.keycode.specs.Limits.{maxKey}
 use Rattle.keycode.specs.declared.refusal.Refusal.the-variants.{Absent, KeyTooLong, BadRequest}
-use Rattle.keycode.specs.Keys.{encode, unversioned}
+use Rattle.keys.specs.Keys.{encode, unversioned}
 use Rattle.keydir.specs.declared.slots.Slot.{Slot}
 use Rattle.recovery.specs.declared.request.Changed.the-variants as Change
-use Rattle.recovery.specs.Recover.{recovered, mapOf}
+use Rattle.recovery.specs.Recover.{recovered}
 use Rattle.recovery.specs.Agree.{fit, Agrees}
 use Rattle.recovery.specs.Promises.{changedNumber}
 use Rattle.bitcask.specs.declared.append.Check.{Check}
@@ -28,7 +28,8 @@ use Rattle.txn.specs.declared.look.Slotted.the-variants as Slots
 use Rattle.txn.specs.Ranges.{keep}
 use Rattle.txn.specs.Looks.{slotIn}
 use Rattle.txn.specs.Checks.{openBy, admitBy, asked, openIn}
-use Rattle.mvcc_read.specs.declared.resume.Begun.{Begun}
+use Rattle.txn.specs.declared.begun.Begun.{Begun}
+use Rattle.txn.specs.Given.{refusedBy, begunWith}
 use Rattle.mvcc_read.specs.Seen.{lastSeen, locatedSeen, versionTest}
 
 -- ---- get
@@ -72,8 +73,8 @@ pub record GetsUnversioned (log : List ℕ) (used : ℕ) (t key : List ℕ) (r :
 -- ---- resume
 
 abbrev pub resumedBy : Check → ℕ → Handle → Begun
-resumedBy Check.Fine used h = record { answer = Change.Done (record { len = used }); handle = h }
-resumedBy (Check.Refused r) used h = record { answer = Change.Refused r; handle = blankHandle }
+resumedBy Check.Fine used h = begunWith used h
+resumedBy (Check.Refused r) used h = refusedBy r
 
 -- 13, 3, and then the used length and the handle as they were
 unfoldable pub resumeAnswer : Bool → Bool → Bool → ℕ → Handle → Begun

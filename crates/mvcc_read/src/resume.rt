@@ -3,14 +3,9 @@ use bitcask::append::Check;
 use handle::Handle;
 use recovery::Changed;
 use recovery::Used;
+use txn::Begun;
 use txn::check::admit;
 ghost use Rattle.mvcc_read.specs.Promises.{Resumes};
-
-// A used length and a handle; a blank handle beside a refusal.
-pub struct Begun {
-    pub answer: Changed,
-    pub handle: Handle,
-}
 
 pub fn resume(log: &[u8], used: Used, table: &[u32], handle: Handle) -> Begun
     ensures { λ r. ⌜ Resumes (now (log .entry)) (used .len) (now (table .entry)) handle r ⌝ }

@@ -6,13 +6,13 @@ use mathlib.Core.List.{List, [], _∷_}
 use native.Mathlib.Omega.{arith}
 use lib.ListN.{length, drop, length-take}
 use Rattle.keycode.specs.Limits.{maxKey}
-use Rattle.keycode.specs.Keys.{decodeWhy, forget}
+use Rattle.keys.specs.Keys.{decodeWhy, forget}
 use Rattle.keycode.specs.declared.parts.Part.{Part}
 use Rattle.keycode.specs.declared.refusal.Refusal.{Refusal}
-use Rattle.keycode.specs.declared.keys.Key.{Key}
-use Rattle.keycode.specs.declared.keys.Key.the-variants.{Version}
-use Rattle.keycode.specs.declared.keys.Decoded.{Decoded}
-use Rattle.keycode.specs.declared.keys.Decoded.the-variants.{Whole, Refused}
+use Rattle.keys.specs.declared.keys.Key.{Key}
+use Rattle.keys.specs.declared.keys.Key.the-variants.{Version}
+use Rattle.keys.specs.declared.keys.Decoded.{Decoded}
+use Rattle.keys.specs.declared.keys.Decoded.the-variants.{Whole, Refused}
 use Rattle.keydir.specs.declared.slots.Slot.{Slot}
 use Rattle.keydir.specs.Slots.{keyOf, valueOf}
 use Rattle.bitcask.specs.Promises.{keyPart, valuePart}

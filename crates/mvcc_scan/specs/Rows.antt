@@ -4,12 +4,12 @@ use Prim.Native.Nat.{ℕ, _+_, _-_}
 use mathlib.Core.List.{List}
 use Rattle.keycode.specs.Tests.{pick}
 use Rattle.keycode.specs.Limits.{maxKey}
-use Rattle.keycode.specs.Keys.{decodeWhy, forget}
+use Rattle.keys.specs.Keys.{decodeWhy, forget}
 use Rattle.keycode.specs.declared.parts.Part.{Part}
-use Rattle.keycode.specs.declared.keys.Key.{Key}
-use Rattle.keycode.specs.declared.keys.Key.the-variants.{NextVersion, TxnActive, TxnActiveSnapshot, TxnWrite, Version, Unversioned}
-use Rattle.keycode.specs.declared.keys.Decoded.{Decoded}
-use Rattle.keycode.specs.declared.keys.Decoded.the-variants.{Whole, Refused}
+use Rattle.keys.specs.declared.keys.Key.{Key}
+use Rattle.keys.specs.declared.keys.Key.the-variants.{NextVersion, TxnActive, TxnActiveSnapshot, TxnWrite, Version, Unversioned}
+use Rattle.keys.specs.declared.keys.Decoded.{Decoded}
+use Rattle.keys.specs.declared.keys.Decoded.the-variants.{Whole, Refused}
 use Rattle.keydir.specs.declared.slots.Slot.{Slot}
 use Rattle.keydir.specs.Slots.{keyOf, valueOf}
 use Rattle.bitcask.specs.Promises.{keyPart, valuePart}

@@ -5,7 +5,7 @@ use mathlib.Core.List.{List, [], _∷_, _++_}
 use native.Mathlib.Omega.{arith}
 use lib.ListN.{length, length-append, take}
 use Rattle.keycode.specs.Limits.{maxLog}
-use Rattle.keycode.specs.Keys.{encode, txnWrite, version}
+use Rattle.keys.specs.Keys.{encode, txnWrite, version}
 use Rattle.keycode.specs.declared.refusal.Refusal.{Refusal}
 use Rattle.entry.specs.Entry.{Entry, set}
 use Rattle.keydir.specs.declared.slots.Slot.{Slot}

@@ -9,7 +9,7 @@ use lib.ListN.{length, take}
 use borrow.Author.Tests.{leb-true}
 use Rattle.keycode.specs.Limits.{maxKey, maxValue}
 use Rattle.keycode.specs.Refusals.{numberOf}
-use Rattle.keycode.specs.Keys.{encode, unversioned}
+use Rattle.keys.specs.Keys.{encode, unversioned}
 use Rattle.keycode.specs.declared.refusal.Refusal.{Refusal}
 use Rattle.keycode.specs.declared.refusal.Refusal.the-variants.{KeyTooLong, ValueTooLong, BadRequest}
 use Rattle.keycode.proofs.Basics.{nope}

@@ -7,14 +7,14 @@ use native.Mathlib.Omega.{arith}
 use lib.ListN.{length, take, getD}
 use Rattle.keycode.specs.Tests.{pick}
 use Rattle.keycode.specs.Limits.{maxKey}
-use Rattle.keycode.specs.Keys.{encode, version, decodeWhy, forget}
+use Rattle.keys.specs.Keys.{encode, version, decodeWhy, forget}
 use Rattle.keycode.specs.declared.refusal.Refusal.{Refusal}
 use Rattle.keycode.specs.declared.refusal.Refusal.the-variants.{Conflict, BadStore}
 use Rattle.keycode.specs.declared.parts.Part.{Part}
-use Rattle.keycode.specs.declared.keys.Key.{Key}
-use Rattle.keycode.specs.declared.keys.Key.the-variants.{NextVersion, TxnActive, TxnActiveSnapshot, TxnWrite, Version, Unversioned}
-use Rattle.keycode.specs.declared.keys.Decoded.{Decoded}
-use Rattle.keycode.specs.declared.keys.Decoded.the-variants as Decodes
+use Rattle.keys.specs.declared.keys.Key.{Key}
+use Rattle.keys.specs.declared.keys.Key.the-variants.{NextVersion, TxnActive, TxnActiveSnapshot, TxnWrite, Version, Unversioned}
+use Rattle.keys.specs.declared.keys.Decoded.{Decoded}
+use Rattle.keys.specs.declared.keys.Decoded.the-variants as Decodes
 use Rattle.keycode.proofs.Basics.{nope}
 use Rattle.keydir.specs.declared.slots.Slot.{Slot}
 use Rattle.keydir.specs.Slots.{freeSlot, slotAt, slotsOf, keyOf}

@@ -7,12 +7,12 @@ use mathlib.Core.List.{List, [], _∷_}
 use lib.ListN.{length}
 use Rattle.keycode.specs.Tests.{pick}
 use Rattle.keycode.specs.Limits.{maxKey}
-use Rattle.keycode.specs.Keys.{encode, txnWrite, version, unversioned, decodeWhy, forget}
+use Rattle.keys.specs.Keys.{encode, txnWrite, version, unversioned, decodeWhy, forget}
 use Rattle.keycode.specs.declared.refusal.Refusal.the-variants.{ReadOnly, NotOpen, KeyTooLong, ValueTooLong, Conflict, BadStore, BadRequest}
-use Rattle.keycode.specs.declared.keys.Key.{Key}
-use Rattle.keycode.specs.declared.keys.Key.the-variants.{NextVersion, TxnActive, TxnActiveSnapshot, TxnWrite, Version, Unversioned}
-use Rattle.keycode.specs.declared.keys.Decoded.{Decoded}
-use Rattle.keycode.specs.declared.keys.Decoded.the-variants as Decodes
+use Rattle.keys.specs.declared.keys.Key.{Key}
+use Rattle.keys.specs.declared.keys.Key.the-variants.{NextVersion, TxnActive, TxnActiveSnapshot, TxnWrite, Version, Unversioned}
+use Rattle.keys.specs.declared.keys.Decoded.{Decoded}
+use Rattle.keys.specs.declared.keys.Decoded.the-variants as Decodes
 use Rattle.entry.specs.Entry.{Entry, set}
 use Rattle.keydir.specs.declared.slots.Slot.{Slot}
 use Rattle.keydir.specs.Slots.{slotWords, slotsOf}

@@ -9,10 +9,10 @@ use lib.Seq.{take-at}
 use borrow.Author.Tests.{eqb-true, eq-eqb}
 use Rattle.keycode.specs.Tests.{pick}
 use Rattle.keycode.specs.Number.{be, num}
-use Rattle.keycode.specs.Keys.{Fields, nextVersion, txnActive, txnActiveSnapshot, txnWrite, version, unversioned, tagOf, encode}
+use Rattle.keys.specs.Keys.{Fields, nextVersion, txnActive, txnActiveSnapshot, txnWrite, version, unversioned, tagOf, encode}
 use Rattle.keycode.specs.Strings.{escape}
 use Rattle.keycode.proofs.NumberLaws.{length-be, num-be}
-use Rattle.keycode.proofs.KeyLaws.{Sound}
+use Rattle.keys.proofs.KeyLaws.{Sound}
 use Rattle.txn.specs.Ranges.{begins, writePrefix}
 use Rattle.txn.proofs.RangeLaws.{begins-append, begins-split, same-tests}
 

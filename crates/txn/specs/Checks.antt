@@ -7,7 +7,7 @@ use lib.Dec.{eqb}
 use lib.ListN.{length}
 use Rattle.keycode.specs.Tests.{pick}
 use Rattle.keycode.specs.Refusals.{numberOf}
-use Rattle.keycode.specs.Keys.{encode, txnActive}
+use Rattle.keys.specs.Keys.{encode, txnActive}
 use Rattle.keycode.specs.declared.refusal.Refusal.the-variants.{NotOpen, BadRequest}
 use Rattle.bitcask.specs.declared.append.Check.{Check}
 use Rattle.bitcask.specs.declared.append.Check.the-variants.{Fine, Refused}

@@ -3,3 +3,4 @@ pub mod Ranges
 pub mod Looks
 pub mod Checks
 pub mod Lists
+pub mod Given

@@ -3,7 +3,7 @@ use mathlib.Core.Path.{sym, _∙_}
 use lib.ListN.{length}
 use Rattle.keycode.specs.Strings.{unescaped}
 use Rattle.keycode.proofs.StringLaws.{plain-done}
-use Rattle.keycode.proofs.EncodeLaws.{writes-refused, writes-done, into-short, into-done, into-refused}
+use Rattle.keycode.proofs.WriteLaws.{writes-refused, writes-done, into-short, into-done, into-refused}
 use borrow.Author.Needs.{needs}
 use native.Mathlib.Omega.{arith}
 use Rattle.keycode.proofs.strings.unescape.Statement.{statement}

@@ -6,16 +6,15 @@ use Rattle.mvcc_begin.proofs.active.actives.Statement.{statement}
 use Rattle.mvcc_begin.proofs.active.actives.Tie as tie
 
 gather-requires : tie.Need-gather-requires
-gather-requires c κs = omega (arith, c .prefix-range .ensures .within .1)
+gather-requires c κs = omega (arith, c .active-range .ensures .within .1)
 
 returns : tie.Need-returns
-returns c = let a = c .before .before .before .before .before .args in actives-seen (a .log .now) (a .table .now) (a .count) (a .start) (c .before .prefix-range .ensures) (c .gather .ensures)
+returns c = let a = c .before .before .before .before .args in actives-seen (a .log .now) (a .table .now) (a .count) (a .start) (c .before .active-range .ensures) (c .gather .ensures)
 
 pub actives-spec : {M : Type 1} → statement M
 actives-spec =
     tie.close
     (tie.spec
-    (λ c. search needs)
     (λ c κs. search needs)
     gather-requires
     returns)

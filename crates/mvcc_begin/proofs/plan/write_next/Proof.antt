@@ -1,10 +1,10 @@
 -- `write_next`: one entry, its value laid in a buffer.
 use Prim.Native.Nat.{_+_}
-use mathlib.Core.Path.{refl, sym, ap, _∙_}
+use mathlib.Core.Path.{sym, ap, _∙_}
 use mathlib.Core.List.{append-nil}
 use lib.Seq.{length-take-le}
 use lib.ListN.{length}
-use Rattle.keycode.specs.Keys.{encode, nextVersion}
+use Rattle.keys.specs.Keys.{encode, nextVersion}
 use Rattle.handle.specs.Payloads.{versionBytes}
 use Rattle.keycode.proofs.NumberLaws.{length-be}
 use Rattle.mvcc_begin.proofs.PlanLaws.{whole-laid, size-one, one-written}

@@ -3,7 +3,7 @@ use mathlib.Core.Path.{refl, sym, ap}
 use mathlib.Core.List.{[]}
 use lib.ListN.{length}
 use lib.Seq.{length-take-le}
-use Rattle.keycode.specs.Keys.{encode, txnActive}
+use Rattle.keys.specs.Keys.{encode, txnActive}
 use Rattle.mvcc_begin.proofs.PlanLaws.{size-one, one-written}
 use borrow.Author.Needs.{needs}
 use native.Mathlib.Omega.{arith}
