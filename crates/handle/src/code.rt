@@ -1,4 +1,6 @@
 // Encoded keys by value, so that a call can hold several at once. A caller tests a user key's length, number 4, before it makes one.
+use keycode::limits::KEY_BYTES;
+use keycode::refusal::Length;
 use keys::encoding::encode_next_version;
 use keys::encoding::encode_txn_active;
 use keys::encoding::encode_txn_active_snapshot;
@@ -6,8 +8,6 @@ use keys::encoding::encode_txn_write;
 use keys::encoding::encode_unversioned;
 use keys::encoding::encode_version;
 use keys::encoding::encode_version_prefix;
-use keycode::limits::KEY_BYTES;
-use keycode::refusal::Length;
 ghost use mathlib.Core.Path.{_≡_};
 ghost use Prim.Native.Nat.{_≤_};
 ghost use lib.ListN.{length};

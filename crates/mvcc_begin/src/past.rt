@@ -1,8 +1,5 @@
 // As-of: a read-only handle of a version that was given, with the snapshot stored at its begin.
 use crate::active::next_version;
-use txn::begun::Begun;
-use txn::begun::given;
-use txn::begun::refused;
 use handle::Handle;
 use handle::SetAnswer;
 use handle::SetRead;
@@ -15,6 +12,9 @@ use keydir::value_of;
 use recovery::Used;
 use recovery::request::fits;
 use txn::Slotted;
+use txn::begun::Begun;
+use txn::begun::given;
+use txn::begun::refused;
 use txn::look::slot_of;
 ghost use mathlib.Core.Path.{_≡_};
 ghost use Prim.Native.Nat.{_*_, _≤_};

@@ -1,14 +1,14 @@
 // Begin in its read-only form, which appends nothing.
 use crate::active::Tally;
 use crate::active::look_round;
-use txn::begun::Begun;
-use txn::begun::given;
-use txn::begun::refused;
 use keycode::Refusal;
 use keycode::limits::MAX_OPEN;
 use keydir::count;
 use recovery::Used;
 use recovery::request::fits;
+use txn::begun::Begun;
+use txn::begun::given;
+use txn::begun::refused;
 ghost use Rattle.mvcc_begin.specs.Promises.{BeginsReading};
 
 // 13, then 12, then 9.

@@ -1,9 +1,6 @@
 // Begin.
 use crate::active::Tally;
 use crate::active::look_round;
-use txn::begun::Begun;
-use txn::begun::given;
-use txn::begun::refused;
 use crate::plan::judge_start;
 use crate::plan::write_start;
 use bitcask::append::Check;
@@ -16,6 +13,9 @@ use keycode::limits::MAX_OPEN;
 use keydir::count;
 use recovery::Used;
 use recovery::request::fits;
+use txn::begun::Begun;
+use txn::begun::given;
+use txn::begun::refused;
 ghost use Prim.Native.Nat.{_*_, _-_, _^_, _≤_, _<_};
 ghost use lib.ListN.{length};
 ghost use Rattle.keycode.specs.Limits.{maxLog, maxOpen};
