@@ -26,6 +26,7 @@ pub data Fields : Type 0 where
   txnWrite : ℕ → List ℕ → Fields
   version : List ℕ → ℕ → Fields
   unversioned : List ℕ → Fields
+  deriving Discrete as Fields-discrete
 
 abbrev pub tagOf : Fields → ℕ
 tagOf nextVersion = 0
