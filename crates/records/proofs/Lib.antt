@@ -1,0 +1,1 @@
+-- The laws of the store's records as pairs of bytes: what the calls' definitions say of a map of them.

@@ -1,0 +1,2 @@
+-- The definitions that make pairs of bytes of the store's records.
+pub mod Stored

@@ -1,0 +1,1 @@
+// The store's map as records: definitions and laws, and no code.
