@@ -1,1 +1,4 @@
 -- The laws of how transactions end.
+pub mod UndoKeyLaws
+pub mod UndoStepLaws
+pub mod UndoRangeLaws
