@@ -2,3 +2,5 @@
 pub mod UndoKeyLaws
 pub mod UndoStepLaws
 pub mod UndoRangeLaws
+pub mod UndoTurnLaws
+pub mod UndoAgreeLaws

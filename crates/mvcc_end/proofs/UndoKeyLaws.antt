@@ -22,15 +22,20 @@ use Rattle.keycode.specs.declared.keys.Decoded.the-variants.{Whole, Refused}
 use Rattle.keycode.specs.declared.keys.Reading.{Reading}
 use Rattle.keycode.specs.declared.keys.Reading.the-variants.{Read, Faulty}
 use Rattle.keycode.proofs.Basics.{nope}
-use Rattle.keycode.proofs.NumberLaws.{Bytes, length-be}
+use Rattle.keycode.proofs.NumberLaws.{Bytes, length-be, bytes-take, bytes-drop}
 use Rattle.keycode.proofs.BufferLaws.{length-put}
 use Rattle.keycode.proofs.StringLaws.{escape-length}
 use Rattle.keycode.proofs.EncodeLaws.{measure-done, writes-done, two-put, version-length, write-length}
 use Rattle.keycode.proofs.KeyLaws.{encode-decode}
-use Rattle.handle.specs.declared.code.Code.{Code}
+use Rattle.keydir.specs.declared.slots.Slot.{Slot}
+use Rattle.keydir.specs.Slots.{keyOf}
+use Rattle.keydir.specs.Place.{All, all-none, all-more}
+use Rattle.recovery.specs.Map.{Pair}
+use Rattle.recovery.specs.Recover.{view}
+use Rattle.recovery.proofs.AgreeLaws.{both}
 use Rattle.handle.specs.Codes.{keyBytes, Codes}
 use Rattle.handle.proofs.CodeLaws.{code-made, version-fits, write-fits}
-use Rattle.mvcc_end.specs.Plans.{userOf, userBy, userIn, isUser}
+use Rattle.mvcc_end.specs.Plans.{userOf, userBy, userIn, isUser, allUsers}
 use Rattle.mvcc_end.specs.Undo.{Names}
 
 -- ---- by what the code decodes
@@ -108,3 +113,21 @@ module _ (b : List ℕ) (y : Bytes b) where
 
     pub named-made : Names b v (record { len = length b; bytes = e })
     named-made = record { names = λ u f. named-coded u (user-wrote b u y f) }
+
+-- ---- all keys of a list of pairs
+
+-- bytes that are a TxnWrite key, and whose
+pub record Written (b : List ℕ) : Type 0 where
+  pub user : List ℕ
+  pub says : userIn b ≡ some user
+  pub wrote : Wrote b user
+
+pub all-written : (log : List ℕ) → Bytes log → (xs : List Slot) → allUsers (view log xs) ≡ true → All (λ (q : Pair). Written (q .key)) (view log xs)
+unfolding allUsers view keyOf
+all-written log y [] e = all-none
+all-written log y (x ∷ xs) e =
+    let b = keyOf log x in
+    let p = both (isUser (userIn b)) (allUsers (view log xs)) e in
+    let q = user-some (userIn b) (p .0) in
+    let w : Written b = record { user = q .0; says = q .1; wrote = user-wrote b (q .0) (bytes-take (x .klen) (drop (x .place + 7) log) (bytes-drop (x .place + 7) log y)) (q .1) } in
+    all-more w (all-written log y xs (p .1))

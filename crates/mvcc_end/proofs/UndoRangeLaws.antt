@@ -17,9 +17,11 @@ use Rattle.txn.specs.declared.range.Span.{Span}
 use Rattle.txn.specs.Ranges.{slice}
 use Rattle.txn.specs.Lists.{roomAll, stateOf}
 use Rattle.tombs.specs.Cuts.{cutKey, delsOf}
+use Rattle.tombs.proofs.ManyLaws.{Within, Keeps, keeps-more, key-keeps}
 use Rattle.tombs.proofs.ClearLaws.{room-append}
 use Rattle.mvcc_end.specs.Plans.{allUsers}
 use Rattle.mvcc_end.specs.Undo.{undoMany, undone, roomTwice, Undoes}
+use Rattle.mvcc_end.proofs.UndoStepLaws.{undos-keep}
 
 module _ (log : List ℕ) (used : ℕ) (t : List ℕ) (n : ℕ) (span : Span) (v : ℕ) (key : List ℕ) {all : Bool} (ea : all ≡ allUsers (view log (slice (span .from) (span .to) (slotsOf n t)))) where
   abbrev xs : List Slot
@@ -54,3 +56,9 @@ module _ (log : List ℕ) (used : ℕ) (t : List ℕ) (n : ℕ) (span : Span) (v
           bytes = rw (every, z) (ap (λ (x : State). x .log) w);
           words = rw (every, z) (ap (λ (x : State). x .table) w);
         }
+
+pub undone-keeps : (s : State) (span : Span) (v : ℕ) (key : List ℕ) → Within s → Keeps s (undone s span v key)
+unfolding undone
+undone-keeps s span v key w =
+    let k = undos-keep (span .to - span .from) s (span .from) v w in
+    keeps-more k (key-keeps (undoMany (span .to - span .from) s (span .from) v) key (k .within))

@@ -17,7 +17,7 @@ use Rattle.keydir.specs.Place.{placeIn, further, All, all-none, all-more, Sorte
 use Rattle.recovery.proofs.FoldLaws.{Inside, key-same}
 use Rattle.tombs.specs.Cuts.{delsOf}
 
-all-at : {P : Slot → Type 0} (pre : List Slot) (x : Slot) (post : List Slot) → All P (pre ++ (x ∷ post)) → P x
+pub all-at : {P : Slot → Type 0} (pre : List Slot) (x : Slot) (post : List Slot) → All P (pre ++ (x ∷ post)) → P x
 all-at [] x post (all-more p a) = p
 all-at (y ∷ pre) x post (all-more p a) = all-at pre x post a
 

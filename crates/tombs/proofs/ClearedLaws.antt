@@ -24,14 +24,14 @@ use Rattle.tombs.proofs.ManyLaws.{single, key-cut}
 use Rattle.tombs.proofs.RoomLaws.{slice-end}
 use Rattle.tombs.proofs.TurnLaws.{many-agrees}
 
-parts : (a b : ℕ) (ss : List Slot) → a ≤ b → ss ≡ take a ss ++ (slice a b ss ++ drop b ss)
+pub parts : (a b : ℕ) (ss : List Slot) → a ≤ b → ss ≡ take a ss ++ (slice a b ss ++ drop b ss)
 unfolding slice
 parts zero b ss h = sym (take-append-drop b ss)
 parts (suc a) zero ss h = absurd (omega arith)
 parts (suc a) (suc b) [] h = refl
 parts (suc a) (suc b) (x ∷ ss) h = ap (λ (r : List Slot). x ∷ r) (parts a b ss (omega arith))
 
-slice-length : (a b : ℕ) (ss : List Slot) → b ≤ length ss → length (slice a b ss) ≡ b - a
+pub slice-length : (a b : ℕ) (ss : List Slot) → b ≤ length ss → length (slice a b ss) ≡ b - a
 unfolding slice
 slice-length a b ss h = length-drop a (take b ss) ∙ ap (λ (n : ℕ). n - a) (length-take-le b ss h)
 
