@@ -1,6 +1,6 @@
 -- Where the table agrees with the log, a range's writes undone and one key more deleted are their tombstones appended, and the table agrees
 -- again. Assumes nothing.
-use Prim.Native.Nat.{ℕ, zero, suc, _+_, _-_, _<_, _≤_}
+use Prim.Native.Nat.{ℕ, suc, _+_, _-_, _<_, _≤_}
 use mathlib.Core.Path.{_≡_, refl, sym, ap, _∙_, subst}
 use mathlib.Core.Option.{Option, none, some}
 use mathlib.Core.List.{List, [], _∷_, _++_, append-assoc}
@@ -13,7 +13,7 @@ use Rattle.keycode.specs.Keys.{encode, version}
 use Rattle.entry.specs.Entry.{Entry, del}
 use Rattle.keydir.specs.declared.slots.Slot.{Slot}
 use Rattle.keydir.specs.Slots.{slotsOf, keyOf}
-use Rattle.keydir.specs.Place.{countOf, All, all-none, all-more}
+use Rattle.keydir.specs.Place.{countOf, All, all-more}
 use Rattle.keydir.proofs.SlotLaws.{slots-length}
 use Rattle.recovery.specs.Map.{Pair}
 use Rattle.recovery.specs.Recover.{view}

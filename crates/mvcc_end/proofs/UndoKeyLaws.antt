@@ -1,9 +1,9 @@
 -- Which bytes are TxnWrite keys, and the Version keys that they name. Assumes nothing.
 use Prim.Native.Nat.{ℕ, _+_, _-_, _≤_}
 use mathlib.Core.Path.{_≡_, refl, sym, ap, _∙_}
-use mathlib.Core.Bool.{Bool, true, false}
+use mathlib.Core.Bool.{true, false}
 use mathlib.Core.Option.{Option, none, some}
-use mathlib.Core.List.{List, [], _∷_, _++_}
+use mathlib.Core.List.{List, [], _∷_}
 use native.Mathlib.Omega.{arith}
 use lib.ListN.{length, take, drop, replicate, length-drop}
 use lib.Seq.{drop-at, take-all}
@@ -13,7 +13,6 @@ use Rattle.keycode.specs.Number.{be}
 use Rattle.keycode.specs.Strings.{unescaped, escape}
 use Rattle.keycode.specs.Keys.{encode, txnWrite, version, decodeWhy, forget}
 use Rattle.keycode.specs.Promises.{encodeAnswer}
-use Rattle.keycode.specs.declared.refusal.Length.the-variants.{Done}
 use Rattle.keycode.specs.declared.refusal.Refusal.{Refusal}
 use Rattle.keycode.specs.declared.keys.Key.{Key}
 use Rattle.keycode.specs.declared.keys.Key.the-variants.{NextVersion, TxnActive, TxnActiveSnapshot, TxnWrite, Version, Unversioned}

@@ -4,7 +4,7 @@ use Prim.Native.Nat.{ℕ, zero, suc, _+_, _-_, _<_, _≤_}
 use mathlib.Core.Path.{_≡_, refl, sym, ap, _∙_, subst}
 use mathlib.Core.Bool.{Bool, true, false}
 use mathlib.Core.Option.{Option, none, some}
-use mathlib.Core.List.{List, [], _∷_}
+use mathlib.Core.List.{List}
 use native.Mathlib.Decide.{decLt}
 use native.Mathlib.Omega.{arith}
 use native.Mathlib.Numerals.{add-one}
@@ -21,7 +21,6 @@ use Rattle.recovery.specs.Recover.{view}
 use Rattle.bitcask.specs.Append.{State}
 use Rattle.handle.specs.declared.code.Code.{Code}
 use Rattle.txn.specs.Ranges.{slice}
-use Rattle.txn.specs.Lists.{stateOf}
 use Rattle.tombs.specs.Cuts.{cutMany, cutKey}
 use Rattle.tombs.proofs.ManyLaws.{Within, Keeps, keeps-none, keeps-more, many-keeps, key-keeps}
 use Rattle.tombs.proofs.RoomLaws.{slice-next, slice-end}

@@ -2,7 +2,7 @@
 -- deleting it leaves the slots of the writes where they are. Assumes nothing.
 use Prim.Native.Nat.{ℕ, _+_, _≤_}
 use mathlib.Core.Path.{_≡_, refl, sym, ap, _∙_, subst}
-use mathlib.Core.Option.{Option, some}
+use mathlib.Core.Option.{some}
 use mathlib.Core.List.{List, [], _∷_, _++_, append-assoc}
 use native.Mathlib.Omega.{arith}
 use lib.ListN.{length}
@@ -15,7 +15,7 @@ use Rattle.entry.specs.Entry.{del}
 use Rattle.keydir.specs.declared.slots.Slot.{Slot}
 use Rattle.keydir.specs.declared.place.Found.{Found}
 use Rattle.keydir.specs.declared.place.Found.the-variants.{At, Before}
-use Rattle.keydir.specs.Slots.{slotAt, slotsOf, keyOf, removeAt}
+use Rattle.keydir.specs.Slots.{slotsOf, keyOf, removeAt}
 use Rattle.keydir.specs.Place.{further, placeIn, cutAt, countOf, All, all-none, all-more, Sorted, sorted-more}
 use Rattle.keydir.proofs.SortLaws.{all-turn, all-append}
 use Rattle.recovery.specs.Map.{Pair}
@@ -25,7 +25,7 @@ use Rattle.recovery.proofs.ViewLaws.{pairOf}
 use Rattle.recovery.proofs.FoldLaws.{Inside, view-same}
 use Rattle.bitcask.specs.Append.{State, appended, sizeAll}
 use Rattle.txn.specs.Lists.{appendedAll}
-use Rattle.tombs.specs.Cuts.{cutMany, cutKey, delsOf}
+use Rattle.tombs.specs.Cuts.{cutMany, delsOf}
 use Rattle.tombs.proofs.ManyLaws.{key-cut}
 use Rattle.tombs.proofs.AgreedLaws.{all-at}
 use Rattle.tombs.proofs.TurnLaws.{all-front, all-past, slots-inside, slots-sorted, del-slots, del-appends, del-same, del-long, del-used, next-slots, slot-here, many-agrees}

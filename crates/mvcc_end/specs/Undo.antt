@@ -9,7 +9,7 @@ use lib.ListN.{length}
 use Rattle.keycode.specs.Tests.{pick}
 use Rattle.keycode.specs.Keys.{encode, version}
 use Rattle.keycode.specs.declared.refusal.Refusal.the-variants.{LogFull, BadStore}
-use Rattle.entry.specs.Entry.{Entry, del}
+use Rattle.entry.specs.Entry.{del}
 use Rattle.keydir.specs.declared.slots.Slot.{Slot}
 use Rattle.keydir.specs.Slots.{slotAt, slotsOf, keyOf}
 use Rattle.recovery.specs.Recover.{view}

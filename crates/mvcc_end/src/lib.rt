@@ -1,2 +1,3 @@
 // How transactions end. Part of toydb's storage/mvcc.rs. Document 01, 'Transactions'.
+pub mod rollback;
 pub mod undo;

@@ -1,6 +1,5 @@
 -- `all_writes` tests slot by slot.
 use Prim.Native.Nat.{_-_}
-use mathlib.Core.Path.{sym, _∙_}
 use borrow.Author.Tests.{not-true, not-false}
 use Rattle.mvcc_end.proofs.UndoStepLaws.{Testing, test-start, test-end, test-bad, test-next}
 use borrow.Author.Needs.{needs}
