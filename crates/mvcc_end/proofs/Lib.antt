@@ -1,1 +1,4 @@
 -- The laws of how transactions end.
+pub mod EndLaws
+pub mod CommitLaws
+pub mod Unique

@@ -1,1 +1,2 @@
 // How transactions end. Part of toydb's storage/mvcc.rs. Document 01, 'Transactions'.
+pub mod commit;

@@ -1,6 +1,6 @@
 -- Under agreement the tombstones of a prefix's slots are those of the map's keys that begin with it. Assumes nothing.
 use Prim.Native.Nat.{ℕ}
-use mathlib.Core.Path.{_≡_, refl, sym, ap, _∙_}
+use mathlib.Core.Path.{_≡_, refl, ap, _∙_}
 use mathlib.Core.List.{List, [], _∷_}
 use Rattle.entry.specs.Entry.{Entry, del}
 use Rattle.keycode.proofs.NumberLaws.{Bytes}

@@ -1,13 +1,12 @@
 -- Where the table agrees with the log, slots cut one after the other are the tombstones of their keys appended. Assumes nothing.
-use Prim.Native.Nat.{ℕ, zero, suc, _+_, _<_, _≤_}
+use Prim.Native.Nat.{ℕ, _+_, _<_, _≤_}
 use mathlib.Core.Path.{_≡_, refl, sym, ap, _∙_, subst}
 use mathlib.Core.List.{List, [], _∷_, _++_}
 use native.Mathlib.Omega.{arith}
 use lib.ListN.{length, take, getD, length-append}
 use lib.Seq.{getD-at}
 use borrow.Author.Tests.{lt-ltb}
-use Rattle.keycode.specs.Buffer.{put}
-use Rattle.entry.specs.Entry.{Entry, del, bytesOf, sizeOf}
+use Rattle.entry.specs.Entry.{Entry, del}
 use Rattle.keydir.specs.declared.slots.Slot.{Slot}
 use Rattle.keydir.specs.declared.place.Found.{Found}
 use Rattle.keydir.specs.declared.place.Found.the-variants.{At}
@@ -21,7 +20,7 @@ use Rattle.recovery.proofs.FoldLaws.{Inside, recovered-sorted, recovered-inside
 use Rattle.recovery.proofs.AgreeLaws.{agrees-sound, agrees-slots, agrees-place, append-before}
 use Rattle.bitcask.specs.Append.{State, appended, sizeAll}
 use Rattle.txn.specs.Lists.{appendedAll, dels-none, dels-more}
-use Rattle.txn.proofs.ListLaws.{Appends, all-used, all-size}
+use Rattle.txn.proofs.ListLaws.{Appends, all-size}
 use Rattle.txn.proofs.FitLaws.{dels-append}
 use Rattle.tombs.specs.Cuts.{cutOne, cutSlot, cutMany, delsOf}
 use Rattle.tombs.proofs.CutLaws.{one-done}
