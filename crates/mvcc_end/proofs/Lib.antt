@@ -1,5 +1,7 @@
 -- The laws of how transactions end.
 pub mod EndLaws
+pub mod CommitLaws
+pub mod Unique
 pub mod UndoKeyLaws
 pub mod UndoStepLaws
 pub mod UndoRangeLaws
