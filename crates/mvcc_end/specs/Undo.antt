@@ -1,7 +1,6 @@
 -- Slots' writes undone, as the code does it for any table. Assumes nothing.
 use Prim.Native.Nat.{ℕ, zero, suc, _-_}
 use mathlib.Core.Path.{_≡_}
-use mathlib.Core.Bool.{Bool}
 use mathlib.Core.Option.{Option, none, some}
 use mathlib.Core.List.{List, [], _∷_, _++_}
 use lib.Dec.{ltb}
@@ -55,14 +54,11 @@ unfoldable pub roomTwice : List ℕ → ℕ → List Slot → List ℕ → Room
 roomTwice log used xs key = roomAll (Left (length log - used)) (delsOf log xs ++ delsOf log xs ++ (del key ∷ []))
 
 -- 12 where a key of the range is no TxnWrite key, then 7, else what follows
-abbrev pub onUndo : {A : Type 0} → Bool → Room → A → A → A → A
-onUndo all room done bad full = pick all (onRoom room done full) bad
+abbrev pub onUndo : {A : Type 0} → List ℕ → ℕ → List Slot → List ℕ → A → A → A → A
+onUndo log used xs key done bad full = pick (allUsers (view log xs)) (onRoom (roomTwice log used xs key) done full) bad
 
 -- for any table
 pub record Undoes (log : List ℕ) (used : ℕ) (t : List ℕ) (n : ℕ) (span : Span) (v : ℕ) (key : List ℕ) (r : Changed) (log′ t′ : List ℕ) : Type 0 where
-  pub answer : r ≡ onUndo (allUsers (view log (slice (span .from) (span .to) (slotsOf n t)))) (roomTwice log used (slice (span .from) (span .to) (slotsOf n t)) key)
-      (Change.Done (record { len = undone (stateOf log used t n) span v key .used })) (Change.Refused BadStore) (Change.Refused LogFull)
-  pub bytes : log′ ≡ onUndo (allUsers (view log (slice (span .from) (span .to) (slotsOf n t)))) (roomTwice log used (slice (span .from) (span .to) (slotsOf n t)) key)
-      (undone (stateOf log used t n) span v key .log) log log
-  pub words : t′ ≡ onUndo (allUsers (view log (slice (span .from) (span .to) (slotsOf n t)))) (roomTwice log used (slice (span .from) (span .to) (slotsOf n t)) key)
-      (undone (stateOf log used t n) span v key .table) t t
+  pub answer : r ≡ onUndo log used (slice (span .from) (span .to) (slotsOf n t)) key (Change.Done (record { len = undone (stateOf log used t n) span v key .used })) (Change.Refused BadStore) (Change.Refused LogFull)
+  pub bytes : log′ ≡ onUndo log used (slice (span .from) (span .to) (slotsOf n t)) key (undone (stateOf log used t n) span v key .log) log log
+  pub words : t′ ≡ onUndo log used (slice (span .from) (span .to) (slotsOf n t)) key (undone (stateOf log used t n) span v key .table) t t

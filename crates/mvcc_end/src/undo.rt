@@ -4,6 +4,7 @@ use bitcask::append::Room;
 use bitcask::append::room_after;
 use entry::write::copy_into;
 use handle::code::Code;
+use handle::payload::VERSION_BYTES;
 use keycode::Decoded;
 use keycode::Key;
 use keycode::Refusal;
@@ -33,8 +34,8 @@ ghost use Rattle.mvcc_end.specs.Undo.{Names, undoSlot, undoMany, Undoes}
 // The first byte of a Version key.
 const VERSION_TAG: u8 = 4;
 
-// A TxnWrite key's user key starts here, escaped; a version of eight bytes stands before it.
-const USER_AT: usize = 9;
+// Where the user key of a TxnWrite key starts, escaped: behind the tag and the version.
+const USER_AT: usize = 1 + VERSION_BYTES;
 
 // Whether bytes are a TxnWrite key.
 fn is_write(bytes: &[u8]) -> bool
@@ -77,7 +78,7 @@ fn named_code(write: &[u8], version: u64) -> Code
     let mut bytes = [VERSION_TAG; KEY_BYTES];
     let n = write.len();
     copy_into(&write[USER_AT..], &mut bytes, 1);
-    put_number(version, 8, &mut bytes, n - 8);
+    put_number(version, VERSION_BYTES, &mut bytes, n - VERSION_BYTES);
     Code { len: n, bytes }
 }
 
