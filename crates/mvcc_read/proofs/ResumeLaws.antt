@@ -21,8 +21,8 @@ use Rattle.txn.specs.Looks.{liveOf}
 use Rattle.txn.specs.Checks.{activeKey, openBy, admitBy}
 use Rattle.txn.proofs.CheckLaws.{open-agrees}
 use Rattle.txn.specs.declared.begun.Begun.{Begun}
+use Rattle.txn.proofs.OpenLaws.{open-never, open-ever}
 use Rattle.mvcc_read.specs.Promises.{resumedBy, resumeAnswer, Resumes}
-use Rattle.mvcc_read.proofs.OpenLaws.{open-never, open-ever}
 
 -- ---- the parts of an answer
 

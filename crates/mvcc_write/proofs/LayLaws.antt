@@ -8,7 +8,6 @@ use lib.Dec.{leb, eqb}
 use lib.ListN.{length}
 use borrow.Author.Tests.{le-leb, lt-leb, leb-true, leb-false}
 use Rattle.keycode.specs.Tests.{pick}
-use Rattle.keycode.specs.Refusals.{numberOf}
 use Rattle.keycode.specs.Buffer.{put}
 use Rattle.keycode.specs.declared.refusal.Refusal.{Refusal}
 use Rattle.keycode.specs.declared.refusal.Refusal.the-variants.{LogFull, TableFull}
@@ -28,6 +27,7 @@ use Rattle.bitcask.specs.declared.append.Check.{Check}
 use Rattle.bitcask.specs.declared.append.Check.the-variants.{Fine, Refused}
 use Rattle.bitcask.specs.Append.{judge, sizeAll, bytesAll, afterAll, appendAnswer}
 use Rattle.txn.specs.Lists.{appendedAll, roomAll, freshAll, Sets, Apart, checkOf, judgeAll, stateOf, Tries}
+use Rattle.txn.proofs.CheckLaws.{not-done}
 use Rattle.txn.proofs.ListLaws.{all-log, all-words, append-all}
 use Rattle.txn.proofs.FitLaws.{room-all, judge-says, sets-judged, sets-fit, answer-fine}
 use Rattle.txn.specs.Checks.{orElse}
@@ -42,10 +42,6 @@ pub data Late : ℕ → Type 0 where
   late-bad : Late 12
 
 -- ---- refusals
-
--- none has number 0
-pub not-done : (r : Refusal) → numberOf r ≡ 0 → ⊥
-not-done r z = let w : _≡_ {A = ℕ} 1 0 = rw z at (refused-stays {A = ℕ} r 0 1) in omega arith
 
 pub leaves-refused : (log : List ℕ) (used : ℕ) (t : List ℕ) (es : List Entry) (r : Refusal) → Leaves log used t es (Change.Refused r) log t
 leaves-refused log used t es r =

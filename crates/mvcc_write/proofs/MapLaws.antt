@@ -29,11 +29,12 @@ use Rattle.txn.specs.Ranges.{pairsOf}
 use Rattle.txn.specs.Looks.{liveIn}
 use Rattle.txn.specs.Checks.{activeKey, openBy, orElse}
 use Rattle.txn.specs.Lists.{Sets, checkOf}
+use Rattle.txn.proofs.CheckLaws.{not-done}
 use Rattle.txn.proofs.ListLaws.{append-all}
 use Rattle.txn.proofs.FitLaws.{sets-fit, answer-fine}
 use Rattle.mvcc_write.specs.Writes.{sizesBy, allowBy, searchBy, searched, plan, plainPlan}
 use Rattle.mvcc_write.specs.Promises.{Leaves, Writes, SetsPlain, writeAnswer, plainAnswer}
-use Rattle.mvcc_write.proofs.LayLaws.{not-done, answer-by}
+use Rattle.mvcc_write.proofs.LayLaws.{answer-by}
 use Rattle.mvcc_write.proofs.WriteLaws.{plan-sets}
 use Rattle.mvcc_write.proofs.PlainLaws.{plain-sets}
 

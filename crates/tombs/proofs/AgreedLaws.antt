@@ -1,23 +1,19 @@
 -- Where the table agrees with the log, slots cut one after the other are the tombstones of their keys appended. Assumes nothing.
-use Prim.Native.Nat.{ℕ, zero, suc, _+_, _<_, _≤_}
-use mathlib.Core.Path.{_≡_, refl, sym, ap, _∙_, subst}
+use Prim.Native.Nat.{ℕ, _+_, _≤_}
+use mathlib.Core.Path.{_≡_, refl, ap}
 use mathlib.Core.List.{List, [], _∷_, _++_}
 use native.Mathlib.Omega.{arith}
-use lib.ListN.{length, take, drop, getD, length-drop, length-append}
-use lib.Seq.{take-at, drop-at, getD-at, length-take-le}
-use Rattle.keycode.specs.Order.{compareBytes}
-use Rattle.keycode.specs.declared.order.Order.the-variants.{Less, Equal}
+use lib.ListN.{length, take, drop, length-drop}
+use lib.Seq.{length-take-le}
 use Rattle.keycode.proofs.OrderLaws.{compare-refl}
-use Rattle.entry.specs.Entry.{del, bytesOf, sizeOf}
 use Rattle.keydir.specs.declared.slots.Slot.{Slot}
-use Rattle.keydir.specs.declared.place.Found.{Found}
 use Rattle.keydir.specs.declared.place.Found.the-variants.{At}
-use Rattle.keydir.specs.Slots.{freeSlot, keyOf, removeAt}
-use Rattle.keydir.specs.Place.{placeIn, further, All, all-none, all-more, Sorted, sorted-none, sorted-more}
+use Rattle.keydir.specs.Slots.{keyOf, removeAt}
+use Rattle.keydir.specs.Place.{placeIn, further, All, all-none, all-more, Sorted, sorted-more}
 use Rattle.recovery.proofs.FoldLaws.{Inside, key-same}
 use Rattle.tombs.specs.Cuts.{delsOf}
 
-all-at : {P : Slot → Type 0} (pre : List Slot) (x : Slot) (post : List Slot) → All P (pre ++ (x ∷ post)) → P x
+pub all-at : {P : Slot → Type 0} (pre : List Slot) (x : Slot) (post : List Slot) → All P (pre ++ (x ∷ post)) → P x
 all-at [] x post (all-more p a) = p
 all-at (y ∷ pre) x post (all-more p a) = all-at pre x post a
 

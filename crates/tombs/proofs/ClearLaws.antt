@@ -1,5 +1,5 @@
 -- A range's keys and one key more deleted, by what the code finds, for any table. Assumes nothing.
-use Prim.Native.Nat.{ℕ, _+_, _-_}
+use Prim.Native.Nat.{ℕ, _-_}
 use mathlib.Core.Path.{_≡_, refl, sym, ap, _∙_, subst}
 use mathlib.Core.List.{List, [], _∷_, _++_}
 use lib.ListN.{length}
@@ -14,7 +14,7 @@ use Rattle.txn.specs.declared.range.Span.{Span}
 use Rattle.txn.specs.Ranges.{slice}
 use Rattle.txn.specs.Lists.{roomAll, stateOf}
 use Rattle.tombs.specs.Cuts.{cutMany, cutKey, delsOf, clearing, cleared, roomOf, Clears}
-use Rattle.tombs.proofs.ManyLaws.{Within, many-keeps}
+use Rattle.tombs.proofs.ManyLaws.{Within, Keeps, keeps-more, many-keeps, key-keeps}
 
 pub room-append : (room : Room) (es fs : List Entry) → roomAll room (es ++ fs) ≡ roomAll (roomAll room es) fs
 unfolding roomAll
@@ -23,6 +23,11 @@ room-append room (e ∷ es) fs = room-append (roomAfter room (length (entryKey e
 
 pub after-many : (n : ℕ) (s : State) (i : ℕ) {s′ : State} → Within s → s′ ≡ cutMany n s i → Within s′
 after-many n s i w e = subst Within (sym e) (many-keeps n s i w .within)
+
+pub clear-keeps : (s : State) (span : Span) (key : List ℕ) → Within s → Keeps s (cleared s span key)
+unfolding cleared
+clear-keeps s span key w =
+    let k = many-keeps (span .to - span .from) s (span .from) w in keeps-more k (key-keeps (cutMany (span .to - span .from) s (span .from)) key (k .within))
 
 module _ (log : List ℕ) (used : ℕ) (t : List ℕ) (n : ℕ) (span : Span) (key : List ℕ) {room left : Room}
     (er : room ≡ roomAll (Left (length log - used)) (delsOf log (slice (span .from) (span .to) (slotsOf n t)))) (el : left ≡ roomAfter room (length key) 0) where

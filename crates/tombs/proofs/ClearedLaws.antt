@@ -1,19 +1,19 @@
 -- Where the table agrees with the log, a range's keys and one key more deleted are their tombstones appended, and the table agrees again.
 -- Assumes nothing.
-use Prim.Native.Nat.{ℕ, zero, suc, _+_, _-_, _<_, _≤_}
+use Prim.Native.Nat.{ℕ, zero, suc, _+_, _-_, _≤_}
 use mathlib.Core.Path.{_≡_, refl, sym, ap, _∙_, subst}
 use mathlib.Core.List.{List, [], _∷_, _++_}
 use native.Mathlib.Decide.{decLe}
 use native.Mathlib.Omega.{arith}
 use lib.ListN.{length, take, drop, length-drop, take-append-drop}
 use lib.Seq.{length-take-le}
-use Rattle.entry.specs.Entry.{Entry, del}
+use Rattle.entry.specs.Entry.{del}
 use Rattle.keydir.specs.declared.slots.Slot.{Slot}
 use Rattle.keydir.specs.Slots.{slotsOf}
 use Rattle.keydir.specs.Place.{countOf}
 use Rattle.keydir.proofs.SlotLaws.{slots-length}
 use Rattle.recovery.specs.Agree.{Agrees}
-use Rattle.bitcask.specs.Append.{State, appended, sizeAll}
+use Rattle.bitcask.specs.Append.{State, sizeAll}
 use Rattle.txn.specs.declared.range.Span.{Span}
 use Rattle.txn.specs.Ranges.{slice}
 use Rattle.txn.specs.Lists.{appendedAll, Dels, dels-none, dels-more, stateOf}
@@ -24,14 +24,14 @@ use Rattle.tombs.proofs.ManyLaws.{single, key-cut}
 use Rattle.tombs.proofs.RoomLaws.{slice-end}
 use Rattle.tombs.proofs.TurnLaws.{many-agrees}
 
-parts : (a b : ℕ) (ss : List Slot) → a ≤ b → ss ≡ take a ss ++ (slice a b ss ++ drop b ss)
+pub parts : (a b : ℕ) (ss : List Slot) → a ≤ b → ss ≡ take a ss ++ (slice a b ss ++ drop b ss)
 unfolding slice
 parts zero b ss h = sym (take-append-drop b ss)
 parts (suc a) zero ss h = absurd (omega arith)
 parts (suc a) (suc b) [] h = refl
 parts (suc a) (suc b) (x ∷ ss) h = ap (λ (r : List Slot). x ∷ r) (parts a b ss (omega arith))
 
-slice-length : (a b : ℕ) (ss : List Slot) → b ≤ length ss → length (slice a b ss) ≡ b - a
+pub slice-length : (a b : ℕ) (ss : List Slot) → b ≤ length ss → length (slice a b ss) ≡ b - a
 unfolding slice
 slice-length a b ss h = length-drop a (take b ss) ∙ ap (λ (n : ℕ). n - a) (length-take-le b ss h)
 

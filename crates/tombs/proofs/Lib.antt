@@ -1,6 +1,7 @@
 -- The laws of slots' keys deleted; the crates above cite them.
 pub mod TombLaws
 pub mod CutLaws
+pub mod ExtendLaws
 pub mod ManyLaws
 pub mod RoomLaws
 pub mod ClearLaws

@@ -4,20 +4,23 @@ use mathlib.Core.Path.{_≡_, refl, sym, ap, _∙_, subst}
 use mathlib.Core.List.{List, [], _∷_}
 use native.Mathlib.Decide.{decLe, decLt}
 use native.Mathlib.Omega.{arith}
-use lib.Dec.{leb, ltb}
+use lib.Dec.{ltb}
 use lib.ListN.{length}
 use borrow.Author.Tests.{le-leb, lt-leb, lt-ltb, le-ltb}
 use Rattle.keycode.specs.Tests.{pick}
 use Rattle.keycode.specs.Limits.{maxLog}
-use Rattle.entry.specs.Entry.{del}
+use Rattle.keycode.specs.Buffer.{put}
+use Rattle.entry.specs.Entry.{del, bytesOf, sizeOf}
+use Rattle.entry.proofs.EntryLaws.{length-bytes}
 use Rattle.keydir.specs.declared.slots.Slot.{Slot}
 use Rattle.keydir.specs.Slots.{slotWords, slotAt, keyOf}
 use Rattle.bitcask.specs.Append.{State, appended, sizeAll}
 use Rattle.txn.specs.Lists.{appendedAll}
 use Rattle.txn.proofs.ListLaws.{all-used, all-size, all-words, all-count}
-use Rattle.tombs.specs.Cuts.{cutOne, cutSlot, cutMany, cutKey}
+use Rattle.tombs.specs.Cuts.{cutOne, cutSlot, cutMany, cutKey, Extends}
 use Rattle.tombs.proofs.TombLaws.{key-long}
 use Rattle.tombs.proofs.CutLaws.{one-out, one-tight, one-done}
+use Rattle.tombs.proofs.ExtendLaws.{extends-none, extends-put, extends-more}
 
 -- ---- what every step keeps
 
@@ -27,12 +30,12 @@ pub record Within (s : State) : Type 0 where
   pub small : length (s .log) ≤ maxLog
 
 pub record Keeps (s s′ : State) : Type 0 where
-  pub bytes : length (s′ .log) ≡ length (s .log)
+  pub extends : Extends (s .log) (s .used) (s′ .log) (s′ .used)
   pub words : length (s′ .table) ≡ length (s .table)
   pub within : Within s′
 
-keeps-none : (s : State) → Within s → Keeps s s
-keeps-none s w = record { bytes = refl; words = refl; within = w }
+pub keeps-none : (s : State) → Within s → Keeps s s
+keeps-none s w = record { extends = extends-none (s .log) (s .used) (w .ends); words = refl; within = w }
 
 pub single : (s : State) (key : List ℕ) → appendedAll s (del key ∷ []) ≡ appended s (del key)
 unfolding appendedAll
@@ -42,12 +45,19 @@ single-size : (key : List ℕ) → sizeAll (del key ∷ []) ≡ 8 + length key
 unfolding sizeAll
 single-size key = omega arith
 
+one-extends : (s : State) (key : List ℕ) → s .used + 8 + length key ≤ length (s .log) → Extends (s .log) (s .used) (appended s (del key) .log) (appended s (del key) .used)
+unfolding appended
+one-extends s key h =
+    let q : s .used + length (bytesOf (del key)) ≡ s .used + sizeOf (del key) = ap (λ (n : ℕ). s .used + n) (length-bytes (del key)) in
+    subst (λ (n : ℕ). Extends (s .log) (s .used) (put (s .log) (s .used) (bytesOf (del key))) n) q
+    (extends-put (s .log) (s .used) (bytesOf (del key)) (omega (arith, length-bytes (del key))))
+
 one-keeps : (s : State) (key : List ℕ) → Within s → s .used + 8 + length key ≤ length (s .log) → Keeps s (appended s (del key))
 one-keeps s key w h =
     let l = all-size s (del key ∷ []) (omega (arith, single-size key)) in
     let k : Keeps s (appendedAll s (del key ∷ [])) =
     record {
-      bytes = l;
+      extends = subst (λ (x : State). Extends (s .log) (s .used) (x .log) (x .used)) (sym (single s key)) (one-extends s key h);
       words = all-words s (del key ∷ []) (w .slots);
       within = record { slots = all-count s (del key ∷ []) (w .slots); ends = omega (arith, all-used s (del key ∷ []), single-size key); small = omega (arith, w .small) };
     } in
@@ -65,8 +75,8 @@ slot-keeps s x w = go (decLe (x .place + 7 + x .klen) (s .used)) (decLe (s .used
     go (yes h) (no g) = rw (one-tight s x h (omega arith)) (keeps-none s w)
     go (no h) d = rw (one-out s x (omega arith)) (keeps-none s w)
 
-keeps-more : {a b c : State} → Keeps a b → Keeps b c → Keeps a c
-keeps-more v w = record { bytes = w .bytes ∙ v .bytes; words = w .words ∙ v .words; within = w .within }
+pub keeps-more : {a b c : State} → Keeps a b → Keeps b c → Keeps a c
+keeps-more v w = record { extends = extends-more (v .extends) (w .extends); words = w .words ∙ v .words; within = w .within }
 
 pub many-keeps : (n : ℕ) (s : State) (i : ℕ) → Within s → Keeps s (cutMany n s i)
 unfolding cutMany cutSlot
@@ -119,3 +129,10 @@ module _ (s : State) (key : List ℕ) where
   pub key-cut : s .used + 8 + length key ≤ length (s .log) → {r : State} → r ≡ appended s (del key) → r ≡ cutKey s key
   unfolding cutKey
   key-cut h e = rw (le-leb (s .used + 8 + length key) (length (s .log)) h) e
+
+pub key-keeps : (s : State) (key : List ℕ) → Within s → Keeps s (cutKey s key)
+key-keeps s key w = go (decLe (s .used + 8 + length key) (length (s .log)))
+  where
+    go : Dec (s .used + 8 + length key ≤ length (s .log)) → Keeps s (cutKey s key)
+    go (yes h) = subst (λ (x : State). Keeps s x) (key-cut s key h refl) (one-keeps s key w h)
+    go (no h) = subst (λ (x : State). Keeps s x) (key-tight s key (omega arith)) (keeps-none s w)

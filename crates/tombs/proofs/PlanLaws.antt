@@ -1,16 +1,16 @@
 -- Under agreement the tombstones of a prefix's slots are those of the map's keys that begin with it. Assumes nothing.
 use Prim.Native.Nat.{ℕ}
-use mathlib.Core.Path.{_≡_, refl, sym, ap, _∙_}
+use mathlib.Core.Path.{_≡_, refl, ap, _∙_}
 use mathlib.Core.List.{List, [], _∷_}
 use Rattle.entry.specs.Entry.{Entry, del}
 use Rattle.keycode.proofs.NumberLaws.{Bytes}
 use Rattle.keydir.specs.declared.slots.Slot.{Slot}
 use Rattle.keydir.specs.Slots.{slotsOf, keyOf}
 use Rattle.keydir.specs.Place.{countOf}
-use Rattle.recovery.specs.Recover.{recovered, view, mapOf}
+use Rattle.recovery.specs.Recover.{view, mapOf}
 use Rattle.recovery.specs.Agree.{Agrees}
 use Rattle.txn.specs.declared.range.Span.{Span}
-use Rattle.txn.specs.Ranges.{begins, keep, pairsOf, slice, prefixIn, Prefixes}
+use Rattle.txn.specs.Ranges.{begins, pairsOf, slice, prefixIn, Prefixes}
 use Rattle.txn.proofs.RangeLaws.{keep-map, prefix-agrees, span-prefix}
 use Rattle.tombs.specs.Cuts.{delsOf}
 use Rattle.tombs.specs.Plans.{cutsOf}
@@ -20,8 +20,11 @@ unfolding delsOf view cutsOf
 view-dels log [] = refl
 view-dels log (x ∷ ss) = ap (λ (r : List Entry). del (keyOf log x) ∷ r) (view-dels log ss)
 
-pub range-dels : (log p : List ℕ) (used : ℕ) (t : List ℕ) (n : ℕ) (span : Span) → Bytes log → Agrees log used t → n ≡ countOf t → Prefixes log (slotsOf n t) n p span
-    → delsOf log (slice (span .from) (span .to) (slotsOf n t)) ≡ cutsOf (pairsOf (begins p) (mapOf log used))
-range-dels log p used t n span b g en w =
-    ap (delsOf log) (span-prefix p log w ∙ ap (λ (m : ℕ). prefixIn p log (slotsOf m t)) en ∙ prefix-agrees p log used t b g)
-    ∙ view-dels log (keep (begins p) log (recovered log used)) ∙ ap cutsOf (keep-map log (begins p) used)
+module _ (log p : List ℕ) (used : ℕ) (t : List ℕ) (n : ℕ) (span : Span) (b : Bytes log) (g : Agrees log used t) (en : n ≡ countOf t) (w : Prefixes log (slotsOf n t) n p span) where
+  pub range-view : view log (slice (span .from) (span .to) (slotsOf n t)) ≡ pairsOf (begins p) (mapOf log used)
+  range-view =
+      ap (view log) (span-prefix p log w ∙ ap (λ (m : ℕ). prefixIn p log (slotsOf m t)) en ∙ prefix-agrees p log used t b g)
+      ∙ keep-map log (begins p) used
+
+  pub range-dels : delsOf log (slice (span .from) (span .to) (slotsOf n t)) ≡ cutsOf (pairsOf (begins p) (mapOf log used))
+  range-dels = view-dels log (slice (span .from) (span .to) (slotsOf n t)) ∙ ap cutsOf range-view

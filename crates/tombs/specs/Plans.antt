@@ -1,5 +1,4 @@
 -- What the ends of transactions append, in the words of the map. Assumes nothing.
-use Prim.Native.Nat.{ℕ}
 use mathlib.Core.List.{List, [], _∷_}
 use Rattle.entry.specs.Entry.{Entry, del}
 use Rattle.recovery.specs.Map.{Pair}

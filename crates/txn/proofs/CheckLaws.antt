@@ -3,12 +3,16 @@ use Prim.Native.Nat.{ℕ, _-_, _^_}
 use mathlib.Core.Path.{_≡_, refl, sym, ap, _∙_}
 use mathlib.Core.Bool.{Bool, true, false, not}
 use mathlib.Core.List.{List}
+use native.Mathlib.Omega.{arith}
 use lib.Dec.{eqb}
 use lib.ListN.{length, take}
 use borrow.Author.Tests.{eq-eqb, ne-eqb}
 use Rattle.keycode.specs.Tests.{pick}
+use Rattle.keycode.specs.Refusals.{numberOf}
+use Rattle.keycode.specs.declared.refusal.Refusal.{Refusal}
 use Rattle.keycode.specs.declared.refusal.Refusal.the-variants.{NotOpen, BadRequest}
 use Rattle.keycode.proofs.Basics.{nope}
+use Rattle.keycode.proofs.BufferLaws.{refused-stays}
 use Rattle.keydir.specs.declared.slots.Slot.{Slot}
 use Rattle.keydir.specs.Slots.{slotsOf}
 use Rattle.keydir.specs.Place.{countOf}
@@ -79,6 +83,10 @@ module _ (fits sound active : Bool) where
       pub admit-open : active ≡ true → Fine ≡ admitBy fits sound active
       unfolding admitBy
       admit-open a = rw (f, s, a)
+
+-- no refusal has number 0
+pub not-done : (r : Refusal) → numberOf r ≡ 0 → ⊥
+not-done r z = let w : _≡_ {A = ℕ} 1 0 = rw z at (refused-stays {A = ℕ} r 0 1) in omega arith
 
 -- its numbers, each in its own case
 pub admit-bad : (fits sound active : Bool) → eqb (checkNumber (admitBy fits sound active)) 13 ≡ not (pick fits sound false)

@@ -2,6 +2,7 @@
 pub mod RangeLaws
 pub mod LookLaws
 pub mod CheckLaws
+pub mod OpenLaws
 pub mod ListLaws
 pub mod FitLaws
 pub mod SpanLaws

@@ -16,7 +16,7 @@ loop-holds : tie.Need-loop-holds Inv-loop μ-loop
 loop-holds c = let a = c .before .before .args in many-start (a .n) (stateOf (a .log .now) (a .mark .used) (a .table .now) (a .mark .count)) (a .i) (record { slots = c .before .before .pre .0; ends = c .before .before .pre .1; small = c .before .before .pre .2 })
 
 same-length : tie.Need-same-length Inv-loop μ-loop
-same-length c = c .before .before .before .loop .inv .keeps .bytes
+same-length c = c .before .before .before .loop .inv .keeps .extends .long
 
 same-length-2 : tie.Need-same-length-2 Inv-loop μ-loop
 same-length-2 c = c .before .before .before .loop .inv .keeps .words
@@ -37,7 +37,7 @@ loop-again : tie.Need-loop-again Inv-loop μ-loop
 loop-again c = many-next (c .before .before .before .before .before .before .before .before .before .before .loop .inv) (c .before .before .before .before .before .before .before .before .before .loop-test .taken) (omega (arith, c .before .before .before .before .before .before .before .if1 .left)) (c .before .before .before .before .cut-slot .ensures)
 
 same-length-3 : tie.Need-same-length-3 Inv-loop μ-loop
-same-length-3 c = c .before .loop .inv .keeps .bytes
+same-length-3 c = c .before .loop .inv .keeps .extends .long
 
 same-length-4 : tie.Need-same-length-4 Inv-loop μ-loop
 same-length-4 c = c .before .loop .inv .keeps .words
