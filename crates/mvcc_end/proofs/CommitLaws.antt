@@ -1,15 +1,14 @@
 -- Commit keeps its promise: by the checks, and by a range's keys and one key more deleted. Assumes nothing.
 use Prim.Native.Nat.{ℕ, _+_, _≤_}
 use mathlib.Core.Path.{_≡_, refl, sym, ap, _∙_, subst}
-use mathlib.Core.Bool.{Bool, true, false}
-use mathlib.Core.List.{List, [], _∷_}
+use mathlib.Core.Bool.{true, false}
+use mathlib.Core.List.{List, [], _∷_, _++_}
 use native.Mathlib.Omega.{arith}
 use lib.ListN.{length, take}
 use Rattle.keycode.specs.declared.refusal.Refusal.{Refusal}
 use Rattle.keycode.specs.declared.refusal.Refusal.the-variants.{LogFull}
-use Rattle.keycode.proofs.Basics.{nope}
 use Rattle.keycode.proofs.NumberLaws.{Bytes}
-use Rattle.entry.specs.Entry.{Entry}
+use Rattle.entry.specs.Entry.{Entry, del}
 use Rattle.keydir.specs.declared.slots.Slot.{Slot}
 use Rattle.keydir.specs.Slots.{slotsOf}
 use Rattle.keydir.specs.Place.{countOf}
@@ -19,7 +18,7 @@ use Rattle.recovery.specs.declared.request.Changed.the-variants as Change
 use Rattle.recovery.specs.Recover.{mapOf}
 use Rattle.recovery.specs.Agree.{fit, Agrees}
 use Rattle.recovery.specs.Promises.{changedNumber}
-use Rattle.recovery.proofs.AgreeLaws.{Sound, fit-sound}
+use Rattle.recovery.proofs.AgreeLaws.{Sound}
 use Rattle.bitcask.specs.declared.append.Room.{Room}
 use Rattle.bitcask.specs.declared.append.Room.the-variants.{Left, Full}
 use Rattle.bitcask.specs.declared.append.Check.{Check}
@@ -33,8 +32,7 @@ use Rattle.txn.specs.declared.range.Span.{Span}
 use Rattle.txn.specs.Ranges.{slice, Prefixes, writePrefix}
 use Rattle.txn.specs.Looks.{liveOf}
 use Rattle.txn.specs.Checks.{activeKey, openBy, orElse}
-use Rattle.txn.specs.Lists.{dels-none, stateOf}
-use Rattle.txn.proofs.CheckLaws.{admit-fine}
+use Rattle.txn.specs.Lists.{stateOf}
 use Rattle.txn.proofs.ListLaws.{Appends}
 use Rattle.tombs.specs.Cuts.{clearing, cleared, roomOf, Clears}
 use Rattle.tombs.proofs.ManyLaws.{Within}
@@ -43,7 +41,7 @@ use Rattle.tombs.proofs.ClearedLaws.{clearing-dels, clear-appends}
 use Rattle.tombs.proofs.PlanLaws.{range-dels}
 use Rattle.mvcc_end.specs.Plans.{writesOf, commitPlan}
 use Rattle.mvcc_end.specs.Promises.{among, Commits, commitAnswer}
-use Rattle.mvcc_end.proofs.EndLaws.{leaves-refused, leaves-none, leaves-done, admitted, admit-map, admit-numbers, early-refused, early-fine, dels-room, dels-done, dels-full}
+use Rattle.mvcc_end.proofs.EndLaws.{leaves-refused, leaves-none, leaves-done, admitted, admit-map, admit-numbers, early-refused, fine-sound, early-reads, early-writes, dels-room, dels-done, dels-full, none-done}
 
 module _ (log : List ℕ) (used : ℕ) (t : List ℕ) (h : Handle) where
   abbrev plan : List Entry
@@ -51,7 +49,7 @@ module _ (log : List ℕ) (used : ℕ) (t : List ℕ) (h : Handle) where
 
   answer-is : Agrees log used t → commitAnswer log used (length t) h ≡ orElse (admitted log used t h) (appendAnswer log used (length t) plan)
   unfolding commitAnswer
-  answer-is g = rw (admit-map log used t h g)
+  answer-is g = ap (λ (x : Check). orElse x (appendAnswer log used (length t) plan)) (admit-map log used t h g)
 
   refused-among : (r : Refusal) → admitted log used t h ≡ Refused r → among (changedNumber (Change.Refused r)) (0 ∷ 3 ∷ 7 ∷ 13 ∷ []) ≡ true
   unfolding among
@@ -81,9 +79,7 @@ module _ (log : List ℕ) (used : ℕ) (t : List ℕ) (h : Handle) where
     fine = sym q ∙ ex
 
     pub sized : Sound (length log) used (length t)
-    sized =
-        fit-sound (length log) used (length t)
-        (admit-fine (fit (length log) used (length t)) (soundHandle h) (openBy h (liveOf log (activeKey h) (slotsOf (countOf t) t))) fine .sizes)
+    sized = fine-sound log used t h fine
 
     answer-fine : Agrees log used t → commitAnswer log used (length t) h ≡ appendAnswer log used (length t) plan
     answer-fine g = answer-is g ∙ rw (← fine)
@@ -94,16 +90,13 @@ module _ (log : List ℕ) (used : ℕ) (t : List ℕ) (h : Handle) where
     unfolding commitPlan
     reads-plan p = rw p
 
-    none-answer : Agrees log used t → appendAnswer log used (length t) [] ≡ Change.Done (record { len = used })
-    none-answer g = unfold sizeAll in (dels-done log used t [] g dels-none (omega (arith, sized .within)) ∙ ap (λ (n : ℕ). Change.Done (record { len = n })) (omega arith))
-
     pub commit-reads : h .«read_only» ≡ true → Commits log used t h (Change.Done (record { len = used })) log t
     commit-reads p =
         record {
           leaves = rw (reads-plan p) (leaves-none log used t (sized .within));
-          early = early-fine log used t h fine (Change.Done (record { len = used })) log t refl (λ o. (refl, refl, refl));
+          early = early-reads log used t h fine;
           numbers = done-among used;
-          answer = λ g. sym (answer-fine g ∙ rw (reads-plan p) (none-answer g));
+          answer = λ g. sym (answer-fine g ∙ rw (reads-plan p) (none-done log used t g));
         }
 
     -- ---- a read-write one
@@ -117,10 +110,7 @@ module _ (log : List ℕ) (used : ℕ) (t : List ℕ) (h : Handle) where
 
       plan-is : Agrees log used t → plan ≡ es
       unfolding commitPlan clearing writesOf
-      plan-is g = rw (p, range-dels log (writePrefix (h .version)) used t n span b g en w)
-
-      none-read : {r : Changed} {log′ t′ : List ℕ} → h .«read_only» ≡ true → (r ≡ Change.Done (record { len = used })) × (log′ ≡ log) × (t′ ≡ t)
-      none-read o = let z : _≡_ {A = Bool} true false = sym o ∙ p in nope (cc)
+      plan-is g = rw p (ap (λ (ds : List Entry). ds ++ (del (activeKey h) ∷ [])) (sym (range-dels log (writePrefix (h .version)) used t n span b g en w)))
 
       answer-clear : Agrees log used t → commitAnswer log used (length t) h ≡ appendAnswer log used (length t) es
       answer-clear g = answer-fine g ∙ ap (appendAnswer log used (length t)) (plan-is g)
@@ -132,7 +122,7 @@ module _ (log : List ℕ) (used : ℕ) (t : List ℕ) (h : Handle) where
       full-clear z =
           record {
             leaves = leaves-refused log used t plan LogFull;
-            early = early-fine log used t h fine (Change.Refused LogFull) log t refl none-read;
+            early = early-writes log used t h fine p (Change.Refused LogFull) log t refl;
             numbers = full-among;
             answer = λ g. sym (answer-clear g ∙ dels-full log used t es g (unfold roomOf in z));
           }
@@ -154,7 +144,7 @@ module _ (log : List ℕ) (used : ℕ) (t : List ℕ) (h : Handle) where
         done-clear =
             record {
               leaves = leaves-done log used t n plan s (clear-keeps (stateOf log used t n) span key within) (λ g. subst (λ (fs : List Entry). Appends log used t fs s) (sym (plan-is g)) (appends g));
-              early = early-fine log used t h fine (Change.Done (record { len = s .used })) (s .log) (s .table) refl none-read;
+              early = early-writes log used t h fine p (Change.Done (record { len = s .used })) (s .log) (s .table) refl;
               numbers = done-among (s .used);
               answer = λ g. sym (answer-clear g ∙ dels-done log used t es g (clearing-dels log xs key) (room g) ∙ ap (λ (k : ℕ). Change.Done (record { len = k })) (sym (appends g .ends)));
             }

@@ -25,7 +25,7 @@ use Rattle.recovery.specs.declared.request.Changed.the-variants as Change
 use Rattle.recovery.specs.Recover.{mapOf}
 use Rattle.recovery.specs.Agree.{fit, Agrees}
 use Rattle.recovery.specs.Promises.{changedNumber}
-use Rattle.recovery.proofs.AgreeLaws.{agrees-sound, agrees-unique}
+use Rattle.recovery.proofs.AgreeLaws.{Sound, fit-sound, agrees-sound, agrees-unique}
 use Rattle.bitcask.specs.declared.append.Room.the-variants.{Left, Full}
 use Rattle.bitcask.specs.declared.append.Check.{Check}
 use Rattle.bitcask.specs.declared.append.Check.the-variants.{Fine, Refused}
@@ -34,8 +34,8 @@ use Rattle.handle.specs.declared.handle.Handle.{Handle}
 use Rattle.handle.specs.Handles.{soundHandle}
 use Rattle.txn.specs.Looks.{liveOf}
 use Rattle.txn.specs.Checks.{activeKey, openBy, admitBy, checkNumber, openIn}
-use Rattle.txn.specs.Lists.{roomAll, Dels, stateOf}
-use Rattle.txn.proofs.CheckLaws.{open-read, open-agrees, admit-bad, admit-not-open, admit-fine, not-done}
+use Rattle.txn.specs.Lists.{roomAll, Dels, dels-none, stateOf}
+use Rattle.txn.proofs.CheckLaws.{open-read, open-agrees, admit-bad, admit-not-open, Admitted, admit-fine, not-done}
 use Rattle.txn.proofs.OpenLaws.{open-never}
 use Rattle.txn.proofs.ListLaws.{Appends}
 use Rattle.txn.proofs.FitLaws.{room-all, dels-shrink, map-fits}
@@ -46,13 +46,8 @@ use Rattle.mvcc_end.specs.Promises.{among, Leaves, Early}
 
 -- ---- what is left
 
-abbrev lenOf : Changed → ℕ
-lenOf (Change.Done u) = u .len
-lenOf (Change.Refused r) = 0
-
--- an answer of a used length has one
 done-len : {a : ℕ} {u : Used} → Change.Done (record { len = a }) ≡ Change.Done u → a ≡ u .len
-done-len e = ap lenOf e
+done-len {a} {u} e = let z : _≡_ {A = Used} (record { len = a }) u = cc in ap (λ (y : Used). y .len) z
 
 module _ (log : List ℕ) (used : ℕ) (t : List ℕ) where
   pub leaves-refused : (es : List Entry) (r : Refusal) → Leaves log used t es (Change.Refused r) log t
@@ -161,17 +156,28 @@ module _ (log : List ℕ) (used : ℕ) (t : List ℕ) (h : Handle) where
         reads = λ p a. absurd (read-by fits (soundHandle h) (openBy h live) r q (sym (open-read h live p)) a);
       }
 
-  -- a call that passes the checks: 13 is not its answer, and a read-only handle changes nothing
-  pub early-fine : Fine ≡ admitted → (r : Changed) (log′ t′ : List ℕ) → eqb (changedNumber r) 13 ≡ false
-      → (h .«read_only» ≡ true → (r ≡ Change.Done (record { len = used })) × (log′ ≡ log) × (t′ ≡ t)) → Early log used t h r log′ t′
-  early-fine e r log′ t′ z f =
-      let live : Bool = liveOf log (activeKey h) (slotsOf (countOf t) t) in
-      let w = admit-fine (fit (length log) used (length t)) (soundHandle h) (openBy h live) e in
-      record {
-        bad = z ∙ sym (not-asked (w .sizes) (w .handle));
-        never = λ o. absurd (apart-by (w .opened) (open-never h live o));
-        reads = λ p a. f p;
-      }
+  -- a call that passes the checks
+  module _ (e : Fine ≡ admitted) where
+    fine : Admitted (fit (length log) used (length t)) (soundHandle h) (openBy h (liveOf log (activeKey h) (slotsOf (countOf t) t)))
+    fine = admit-fine (fit (length log) used (length t)) (soundHandle h) (openBy h (liveOf log (activeKey h) (slotsOf (countOf t) t))) e
+
+    pub fine-sound : Sound (length log) used (length t)
+    fine-sound = fit-sound (length log) used (length t) (fine .sizes)
+
+    -- 13 is not its answer, nor is 3 where no store has the handle open
+    early-by : (r : Changed) (log′ t′ : List ℕ) → eqb (changedNumber r) 13 ≡ false → (h .«read_only» ≡ true → (r ≡ Change.Done (record { len = used })) × (log′ ≡ log) × (t′ ≡ t)) → Early log used t h r log′ t′
+    early-by r log′ t′ z f =
+        record {
+          bad = z ∙ sym (not-asked (fine .sizes) (fine .handle));
+          never = λ o. absurd (apart-by (fine .opened) (open-never h (liveOf log (activeKey h) (slotsOf (countOf t) t)) o));
+          reads = λ p a. f p;
+        }
+
+    pub early-reads : Early log used t h (Change.Done (record { len = used })) log t
+    early-reads = early-by (Change.Done (record { len = used })) log t refl (λ p. (refl, refl, refl))
+
+    pub early-writes : h .«read_only» ≡ false → (r : Changed) (log′ t′ : List ℕ) → eqb (changedNumber r) 13 ≡ false → Early log used t h r log′ t′
+    early-writes q r log′ t′ z = early-by r log′ t′ z (λ p. absurd (apart-by p q))
 
 -- ---- the engine's rule, by the room that tombstones leave
 
@@ -206,3 +212,8 @@ module _ (log : List ℕ) (used : ℕ) (t : List ℕ) (es : List Entry) (g : Agr
   pub dels-full : roomAll (Left (length log - used)) es ≡ Full → appendAnswer log used (length t) es ≡ Change.Refused LogFull
   unfolding appendAnswer
   dels-full e = rw (lt-leb (used + sizeAll es) (length log) (omega (arith, full-room es (length log - used) e)))
+
+-- no entry is appended at once
+pub none-done : (log : List ℕ) (used : ℕ) (t : List ℕ) → Agrees log used t → appendAnswer log used (length t) [] ≡ Change.Done (record { len = used })
+none-done log used t g =
+    dels-done log used t [] g dels-none (omega (arith, agrees-sound log used t g .within, none-size log used t)) ∙ ap (λ (n : ℕ). Change.Done (record { len = n })) (none-size log used t)
