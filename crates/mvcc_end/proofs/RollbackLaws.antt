@@ -9,7 +9,6 @@ use lib.ListN.{length, take}
 use Rattle.keycode.specs.Tests.{pick}
 use Rattle.keycode.specs.declared.refusal.Refusal.{Refusal}
 use Rattle.keycode.specs.declared.refusal.Refusal.the-variants.{LogFull, BadStore}
-use Rattle.keycode.proofs.Basics.{nope}
 use Rattle.keycode.proofs.NumberLaws.{Bytes}
 use Rattle.entry.specs.Entry.{Entry, del}
 use Rattle.keydir.specs.declared.slots.Slot.{Slot}
@@ -21,7 +20,7 @@ use Rattle.recovery.specs.declared.request.Changed.the-variants as Change
 use Rattle.recovery.specs.Recover.{view, mapOf}
 use Rattle.recovery.specs.Agree.{fit, Agrees}
 use Rattle.recovery.specs.Promises.{changedNumber}
-use Rattle.recovery.proofs.AgreeLaws.{Sound, fit-sound}
+use Rattle.recovery.proofs.AgreeLaws.{Sound}
 use Rattle.bitcask.specs.declared.append.Room.{Room}
 use Rattle.bitcask.specs.declared.append.Room.the-variants.{Left, Full}
 use Rattle.bitcask.specs.declared.append.Check.{Check}
@@ -35,8 +34,7 @@ use Rattle.txn.specs.declared.range.Span.{Span}
 use Rattle.txn.specs.Ranges.{slice, Prefixes, writePrefix}
 use Rattle.txn.specs.Looks.{liveOf}
 use Rattle.txn.specs.Checks.{activeKey, openBy, orElse}
-use Rattle.txn.specs.Lists.{roomAll, dels-none, stateOf}
-use Rattle.txn.proofs.CheckLaws.{admit-fine}
+use Rattle.txn.specs.Lists.{roomAll, stateOf}
 use Rattle.txn.proofs.ListLaws.{Appends, size-append}
 use Rattle.txn.proofs.FitLaws.{room-all}
 use Rattle.tombs.specs.Cuts.{delsOf}
@@ -45,7 +43,7 @@ use Rattle.tombs.proofs.PlanLaws.{range-view}
 use Rattle.mvcc_end.specs.Plans.{writesOf, allUsers, undosOf, rollbackPlan}
 use Rattle.mvcc_end.specs.Promises.{among, RollsBack, undoAnswer, rollbackAnswer}
 use Rattle.mvcc_end.specs.Undo.{undone, roomTwice, Undoes}
-use Rattle.mvcc_end.proofs.EndLaws.{leaves-refused, leaves-none, leaves-done, admitted, admit-map, admit-numbers, early-refused, early-fine, dels-room, dels-done, dels-full}
+use Rattle.mvcc_end.proofs.EndLaws.{leaves-refused, leaves-none, leaves-done, admitted, admit-map, admit-numbers, early-refused, fine-sound, early-reads, early-writes, dels-room, dels-done, dels-full, none-done}
 use Rattle.mvcc_end.proofs.UndoKeyLaws.{all-written}
 use Rattle.mvcc_end.proofs.UndoRangeLaws.{undone-keeps}
 use Rattle.mvcc_end.proofs.UndoAgreeLaws.{undos-dels, undos-size, undone-appends}
@@ -104,9 +102,7 @@ module _ (log : List ℕ) (used : ℕ) (t : List ℕ) (h : Handle) where
     fine = sym q ∙ ex
 
     pub sized : Sound (length log) used (length t)
-    sized =
-        fit-sound (length log) used (length t)
-        (admit-fine (fit (length log) used (length t)) (soundHandle h) (openBy h (liveOf log (activeKey h) (slotsOf (countOf t) t))) fine .sizes)
+    sized = fine-sound log used t h fine
 
     answer-fine : Agrees log used t → rollbackAnswer log used (length t) h ≡ undoAnswer log used (length t) h
     answer-fine g = answer-is g ∙ rw (← fine)
@@ -118,15 +114,14 @@ module _ (log : List ℕ) (used : ℕ) (t : List ℕ) (h : Handle) where
     reads-plan p = rw p
 
     reads-answer : h .«read_only» ≡ true → Agrees log used t → undoAnswer log used (length t) h ≡ Change.Done (record { len = used })
-    unfolding undoAnswer sizeAll
-    reads-answer p g =
-        rw (reads-plan p, p) (dels-done log used t [] g dels-none (omega (arith, sized .within)) ∙ ap (λ (n : ℕ). Change.Done (record { len = n })) (omega arith))
+    unfolding undoAnswer
+    reads-answer p g = rw (reads-plan p, p) (none-done log used t g)
 
     pub rollback-reads : h .«read_only» ≡ true → RollsBack log used t h (Change.Done (record { len = used })) log t
     rollback-reads p =
         record {
           leaves = rw (reads-plan p) (leaves-none log used t (sized .within));
-          early = early-fine log used t h fine (Change.Done (record { len = used })) log t refl (λ o. (refl, refl, refl));
+          early = early-reads log used t h fine;
           numbers = done-among used;
           answer = λ g. sym (answer-fine g ∙ reads-answer p g);
         }
@@ -158,14 +153,11 @@ module _ (log : List ℕ) (used : ℕ) (t : List ℕ) (h : Handle) where
       answer-undo : Agrees log used t → rollbackAnswer log used (length t) h ≡ pick (allUsers (view log xs)) (appendAnswer log used (length t) es) (Change.Refused BadStore)
       answer-undo g = answer-fine g ∙ undo-is g
 
-      none-read : {r : Changed} {log′ t′ : List ℕ} → h .«read_only» ≡ true → (r ≡ Change.Done (record { len = used })) × (log′ ≡ log) × (t′ ≡ t)
-      none-read o = let z : _≡_ {A = Bool} true false = sym o ∙ p in nope (cc)
-
       bad-undo : allUsers (view log xs) ≡ false → RollsBack log used t h (Change.Refused BadStore) log t
       bad-undo e =
           record {
             leaves = leaves-refused log used t plan BadStore;
-            early = early-fine log used t h fine (Change.Refused BadStore) log t refl none-read;
+            early = early-writes log used t h fine p (Change.Refused BadStore) log t refl;
             numbers = bad-among;
             answer = λ g. sym (answer-undo g ∙ rw e);
           }
@@ -181,7 +173,7 @@ module _ (log : List ℕ) (used : ℕ) (t : List ℕ) (h : Handle) where
         full-undo z =
             record {
               leaves = leaves-refused log used t plan LogFull;
-              early = early-fine log used t h fine (Change.Refused LogFull) log t refl none-read;
+              early = early-writes log used t h fine p (Change.Refused LogFull) log t refl;
               numbers = full-among;
               answer = λ g. sym (answer-all g ∙ dels-full log used t es g (sym room-is ∙ z));
             }
@@ -203,7 +195,7 @@ module _ (log : List ℕ) (used : ℕ) (t : List ℕ) (h : Handle) where
           done-undo =
               record {
                 leaves = leaves-done log used t n plan s (undone-keeps (stateOf log used t n) span (h .version) key within) (λ g. subst (λ (fs : List Entry). Appends log used t fs s) (sym (plan-is g)) (appends g));
-                early = early-fine log used t h fine (Change.Done (record { len = s .used })) (s .log) (s .table) refl none-read;
+                early = early-writes log used t h fine p (Change.Done (record { len = s .used })) (s .log) (s .table) refl;
                 numbers = done-among (s .used);
                 answer = λ g. sym (answer-all g ∙ dels-done log used t es g (undos-dels (h .version) (view log xs) key) (room g) ∙ ap (λ (k : ℕ). Change.Done (record { len = k })) (sym (appends g .ends)));
               }
