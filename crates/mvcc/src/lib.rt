@@ -10,6 +10,8 @@ pub use mvcc_begin::start::begin;
 pub use mvcc_begin::status::Stated;
 pub use mvcc_begin::status::Versions;
 pub use mvcc_begin::status::status;
+pub use mvcc_end::commit::commit;
+pub use mvcc_end::rollback::rollback;
 pub use mvcc_read::get::get;
 pub use mvcc_read::resume::resume;
 pub use mvcc_read::unversioned::get_unversioned;
