@@ -1,5 +1,4 @@
 -- The laws of the transaction calls that append nothing.
-pub mod OpenLaws
 pub mod SeenLaws
 pub mod GetLaws
 pub mod UnversionedLaws
