@@ -36,7 +36,7 @@ use Rattle.txn.specs.Looks.{liveOf}
 use Rattle.txn.specs.Checks.{activeKey, openBy, admitBy, checkNumber, openIn}
 use Rattle.txn.specs.Lists.{roomAll, Dels, dels-none, stateOf}
 use Rattle.txn.proofs.CheckLaws.{open-read, open-agrees, admit-bad, admit-not-open, Admitted, admit-fine, not-done}
-use Rattle.txn.proofs.OpenLaws.{open-never}
+use Rattle.txn.proofs.CheckLaws.{open-never}
 use Rattle.txn.proofs.ListLaws.{Appends}
 use Rattle.txn.proofs.FitLaws.{room-all, dels-shrink, map-fits}
 use Rattle.tombs.specs.Cuts.{Extends}

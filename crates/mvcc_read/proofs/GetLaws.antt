@@ -29,8 +29,7 @@ use Rattle.txn.specs.Ranges.{slice, Spans}
 use Rattle.txn.specs.Looks.{liveOf}
 use Rattle.txn.specs.Checks.{activeKey, openBy, admitBy}
 use Rattle.txn.proofs.RangeLaws.{range-agrees, span-range}
-use Rattle.txn.proofs.CheckLaws.{open-agrees}
-use Rattle.txn.proofs.OpenLaws.{open-never, open-ever}
+use Rattle.txn.proofs.CheckLaws.{open-agrees, open-never, open-ever}
 use Rattle.mvcc_read.specs.declared.seen.Seen.{Seen}
 use Rattle.mvcc_read.specs.declared.seen.Seen.the-variants.{Hidden, Gone, Bad, Value}
 use Rattle.mvcc_read.specs.Seen.{lastSeen, locatedSeen, versionSlots}

@@ -19,9 +19,8 @@ use Rattle.handle.specs.declared.handle.Handle.{Handle}
 use Rattle.handle.specs.Handles.{soundHandle, blankHandle}
 use Rattle.txn.specs.Looks.{liveOf}
 use Rattle.txn.specs.Checks.{activeKey, openBy, admitBy}
-use Rattle.txn.proofs.CheckLaws.{open-agrees}
+use Rattle.txn.proofs.CheckLaws.{open-agrees, open-never, open-ever}
 use Rattle.txn.specs.declared.begun.Begun.{Begun}
-use Rattle.txn.proofs.OpenLaws.{open-never, open-ever}
 use Rattle.mvcc_read.specs.Promises.{resumedBy, resumeAnswer, Resumes}
 
 -- ---- the parts of an answer

@@ -4,10 +4,14 @@ use mathlib.Core.Path.{_≡_, refl, sym, ap, _∙_}
 use mathlib.Core.Bool.{Bool, true, false}
 use mathlib.Core.List.{List, [], _∷_}
 use native.Mathlib.Omega.{arith}
-use lib.ListN.{length, take, replicate}
+use lib.Dec.{leb}
+use lib.ListN.{length, take, replicate, length-take}
 use borrow.Author.Tests.{leb-true}
+use Rattle.keycode.specs.Tests.{pick}
 use Rattle.keycode.specs.Limits.{maxKey}
+use Rattle.keycode.specs.Prefix.{searched}
 use Rattle.keydir.specs.declared.slots.Slot.{Slot}
+use Rattle.recovery.proofs.AgreeLaws.{both}
 use Rattle.bitcask.specs.declared.answers.Bound.{Bound}
 use Rattle.bitcask.specs.declared.answers.Bound.the-variants.{Included, Excluded, Unbounded}
 use Rattle.bitcask.specs.declared.answers.Stepped.{Stepped}
@@ -15,9 +19,10 @@ use Rattle.bitcask.specs.Ranks.{fromBound, uptoBound}
 use Rattle.handle.specs.declared.code.Code.{Code}
 use Rattle.handle.specs.declared.handle.Handle.{Handle}
 use Rattle.handle.specs.Codes.{Codes, keyBytes}
-use Rattle.txn.specs.Ranges.{slice}
+use Rattle.txn.specs.declared.range.Span.{Span}
+use Rattle.txn.specs.Ranges.{slice, Prefixes}
 use Rattle.mvcc_scan.specs.Walks.{stepIn}
-use Rattle.mvcc_scan.specs.Bounds.{keyFits, lastFits, lowKind, lowBytes, highKind, highBytes, lastFrom, scanSlots}
+use Rattle.mvcc_scan.specs.Bounds.{keyFits, lastFits, keysFit, prefixFits, lowKind, lowBytes, highKind, highBytes, lastFrom, pastSlots, scanSlots, prefixSlots}
 
 -- ---- one bound
 
@@ -37,6 +42,9 @@ module _ {b : Bound} (k : List ℕ) where
 -- the end of the Version keys
 pub five-code : Codes (record { len = 1; bytes = replicate {A = ℕ} keyBytes 5 }) (5 ∷ [])
 five-code = record { whole = refl; within = omega arith; says = refl }
+
+pub code-short : {c : Code} {e : List ℕ} → Codes c e → length (take (c .len) (c .bytes)) ≤ keyBytes
+code-short {c} w = omega (arith, w .within, length-take (c .len) (c .bytes))
 
 module _ (log : List ℕ) (ss : List Slot) {b j : Bound} {code : Code} {e : List ℕ} {r : ℕ} (eb : b ≡ j) (w : Codes code e) where
   pub from-by : r ≡ fromBound b log (take (code .len) (code .bytes)) ss → r ≡ fromBound j log e ss
@@ -60,8 +68,37 @@ module _ {b : Bool} (k : List ℕ) where
 
 -- ---- all of them
 
-module _ (h : Handle) (log : List ℕ) (ss : List Slot) (lower : Bound) (low : List ℕ) (upper : Bound) (high : List ℕ) (given : Bool) (last : List ℕ) where
-  pub step-by : {a b f t : ℕ} {r : Stepped} → a ≡ fromBound (lowKind lower) log (lowBytes lower low) ss → b ≡ lastFrom given log last ss → f ≡ max a b
-      → t ≡ uptoBound (highKind upper) log (highBytes upper high) ss → r ≡ stepIn h log (slice f t ss) → r ≡ stepIn h log (scanSlots lower low upper high given last log ss)
-  unfolding scanSlots
-  step-by ea eb ef et er = er ∙ rw (ef, ea, eb, et)
+module _ (lower : Bound) (low : List ℕ) (upper : Bound) (high : List ℕ) (given : Bool) (last : List ℕ) (f : keysFit lower low upper high given last ≡ true) where
+  others : (keyFits upper high ≡ true) × (lastFits given last ≡ true)
+  others = both (keyFits upper high) (lastFits given last) (both (keyFits lower low) (pick (keyFits upper high) (lastFits given last) false) f .1)
+
+  pub keys-low : keyFits lower low ≡ true
+  keys-low = both (keyFits lower low) (pick (keyFits upper high) (lastFits given last) false) f .0
+
+  pub keys-high : keyFits upper high ≡ true
+  keys-high = others .0
+
+  pub keys-last : lastFits given last ≡ true
+  keys-last = others .1
+
+module _ (p : List ℕ) (given : Bool) (last : List ℕ) (f : prefixFits p given last ≡ true) where
+  pub prefix-short : length p ≤ maxKey
+  prefix-short = leb-true (length p) maxKey (both (leb (length p) maxKey) (lastFits given last) f .0)
+
+  pub prefix-last : lastFits given last ≡ true
+  prefix-last = both (leb (length p) maxKey) (lastFits given last) f .1
+
+module _ (h : Handle) (log : List ℕ) (ss : List Slot) (given : Bool) (last : List ℕ) where
+  pub past-by : (f t : ℕ) {b g : ℕ} {r : Stepped} → b ≡ lastFrom given log last ss → g ≡ max f b → r ≡ stepIn h log (slice g t ss) → r ≡ stepIn h log (slice (max f (lastFrom given log last ss)) t ss)
+  past-by f t eb eg er = er ∙ rw (eg, eb)
+
+  module _ (f t : ℕ) {r : Stepped} (er : r ≡ stepIn h log (slice (max f (lastFrom given log last ss)) t ss)) where
+    pub between-by : (lower : Bound) (low : List ℕ) (upper : Bound) (high : List ℕ) → f ≡ fromBound (lowKind lower) log (lowBytes lower low) ss → t ≡ uptoBound (highKind upper) log (highBytes upper high) ss
+        → r ≡ stepIn h log (scanSlots lower low upper high given last log ss)
+    unfolding pastSlots
+    between-by lower low upper high ef et = er ∙ rw (ef, et)
+
+  pub begun-by : (p : List ℕ) {c : Code} {n : ℕ} {span : Span} → Codes c (searched p) → Prefixes log ss n (take (c .len) (c .bytes)) span
+      → {r : Stepped} → r ≡ stepIn h log (slice (max (span .from) (lastFrom given log last ss)) (span .to) ss) → r ≡ stepIn h log (prefixSlots p given last log ss)
+  unfolding pastSlots
+  begun-by p w z er = er ∙ rw (z .from, z .to, w .says)

@@ -2,5 +2,7 @@
 pub mod RowLaws
 pub mod WalkLaws
 pub mod BoundLaws
+pub mod QuietLaws
+pub mod AgreedLaws
 pub mod StepLaws
 pub mod Unique

@@ -1,175 +1,110 @@
--- The scan step keeps its promise. Assumes nothing.
-use Prim.Native.Nat.{ℕ, _*_, _≤_, _<_, max}
+-- The scan steps keep their promise. Assumes nothing.
+use Prim.Native.Nat.{ℕ}
 use mathlib.Core.Path.{_≡_, refl, sym, ap, _∙_}
 use mathlib.Core.Bool.{Bool, true, false, not}
-use mathlib.Core.List.{List, [], _∷_}
-use native.Mathlib.Decide.{decLe}
-use native.Mathlib.Omega.{arith}
-use lib.Dec.{leb, ltb, eqb}
+use mathlib.Core.List.{List}
+use lib.Dec.{eqb}
 use lib.ListN.{length}
-use borrow.Author.Tests.{le-leb, lt-leb}
 use Rattle.keycode.specs.Tests.{pick}
-use Rattle.keycode.specs.declared.parts.Part.{Part}
 use Rattle.keycode.specs.declared.refusal.Refusal.{Refusal}
-use Rattle.keycode.specs.declared.refusal.Refusal.the-variants.{KeyTooLong, BadStore}
+use Rattle.keycode.specs.declared.refusal.Refusal.the-variants.{KeyTooLong}
+use Rattle.keycode.proofs.Basics.{nope}
 use Rattle.keydir.specs.declared.slots.Slot.{Slot}
 use Rattle.keydir.specs.Slots.{slotsOf}
-use Rattle.keydir.specs.Place.{orderAt, countOf, Sorted}
+use Rattle.keydir.specs.Place.{countOf}
 use Rattle.recovery.specs.Recover.{recovered}
 use Rattle.recovery.specs.Agree.{fit, Agrees}
-use Rattle.recovery.proofs.FoldLaws.{recovered-sorted}
-use Rattle.recovery.proofs.AgreeLaws.{agrees-slots}
 use Rattle.bitcask.specs.declared.append.Check.{Check}
 use Rattle.bitcask.specs.declared.append.Check.the-variants as Check
-use Rattle.bitcask.specs.declared.answers.Bound.{Bound}
-use Rattle.bitcask.specs.declared.answers.Bound.the-variants.{Excluded}
 use Rattle.bitcask.specs.declared.answers.Stepped.{Stepped}
 use Rattle.bitcask.specs.declared.answers.Stepped.the-variants as Step
-use Rattle.bitcask.specs.Ranks.{fromBound, uptoBound, lastBound, admitted}
 use Rattle.bitcask.specs.Promises.{steppedNumber}
-use Rattle.bitcask.proofs.ScanLaws.{between, low-test, high-test}
 use Rattle.handle.specs.declared.handle.Handle.{Handle}
 use Rattle.handle.specs.Handles.{soundHandle}
 use Rattle.txn.specs.Ranges.{keep}
 use Rattle.txn.specs.Looks.{liveOf}
 use Rattle.txn.specs.Checks.{activeKey, openBy, admitBy}
-use Rattle.txn.proofs.RangeLaws.{keep-slice}
-use Rattle.txn.proofs.CheckLaws.{open-agrees}
-use Rattle.mvcc_scan.specs.declared.rows.Held.{Held}
-use Rattle.mvcc_scan.specs.declared.rows.Held.the-variants.{Hidden, Gone, Bad, Pair}
-use Rattle.mvcc_scan.specs.declared.rows.Row.{Row}
-use Rattle.mvcc_scan.specs.declared.rows.Row.the-variants.{Junk, Good}
-use Rattle.mvcc_scan.specs.declared.walk.Walk.{Walk}
-use Rattle.mvcc_scan.specs.declared.walk.Walk.the-variants.{Start, Within, Broken, Over}
-use Rattle.mvcc_scan.specs.Rows.{rowIn}
-use Rattle.mvcc_scan.specs.Walks.{sameString, laterHeld, heldAnswer, closedBy, spoiltBy, nextWalk, endedBy, walkIn, stepIn}
-use Rattle.mvcc_scan.specs.Bounds.{keyFits, lastFits, keysFit, lowKind, lowBytes, highKind, highBytes, lastFrom, scanSlots, scanned}
-use Rattle.mvcc_scan.specs.Promises.{checkedStep, scanAnswer, Scans}
+use Rattle.txn.proofs.CheckLaws.{open-agrees, open-never, open-ever, behind, behind-bad, behind-never, behind-ever, behind-long}
+use Rattle.mvcc_scan.specs.Walks.{stepIn}
+use Rattle.mvcc_scan.specs.Promises.{checkedStep, keysBy, scanAnswer, Scanning}
+use Rattle.mvcc_scan.proofs.QuietLaws.{step-quiet}
 
--- ---- the walk never answers 13
+-- ---- 4 behind the checks of every call
 
-abbrev Quiet : Walk → Type 0
-Quiet w = eqb (steppedNumber (endedBy w)) 13 ≡ false
+pub both-by : {x y a b r : Bool} → x ≡ a → y ≡ b → r ≡ pick x y false → r ≡ pick a b false
+both-by ex ey er = er ∙ rw (ex, ey)
 
-held-quiet : (x : Held) → eqb (steppedNumber (heldAnswer x)) 13 ≡ false
-held-quiet Hidden = refl
-held-quiet Gone = refl
-held-quiet Bad = refl
-held-quiet (Pair k v) = refl
+pub keys-refused : {c : Check} (r : Refusal) (b : Bool) → c ≡ Check.Refused r → Check.Refused r ≡ keysBy c b
+unfolding keysBy
+keys-refused r b e = rw e
 
-pick-quiet : (b : Bool) (w v : Walk) → Quiet w → Quiet v → Quiet (pick b w v)
-pick-quiet true w v p q = p
-pick-quiet false w v p q = q
+module _ {c : Check} (e : c ≡ Check.Fine) (b : Bool) where
+  pub keys-fine : b ≡ true → Check.Fine ≡ keysBy c b
+  unfolding keysBy
+  keys-fine t = rw (e, t)
 
-closed-quiet : (k : Part) (new old : Held) → Quiet (closedBy k new old)
-closed-quiet k new Hidden = held-quiet new
-closed-quiet k new Gone = held-quiet new
-closed-quiet k new Bad = refl
-closed-quiet k new (Pair a b) = refl
+  pub keys-long : b ≡ false → Check.Refused KeyTooLong ≡ keysBy c b
+  unfolding keysBy
+  keys-long t = rw (e, t)
 
-spoilt-quiet : (k : Part) (x : Held) → Quiet (spoiltBy k x)
-spoilt-quiet k Hidden = refl
-spoilt-quiet k Gone = refl
-spoilt-quiet k Bad = refl
-spoilt-quiet k (Pair a b) = refl
+-- where the check has passed, the keys fit
+pub fine-fits : (c : Check) (b : Bool) → Check.Fine ≡ keysBy c b → b ≡ true
+unfolding keysBy
+fine-fits Check.Fine true e = refl
+fine-fits Check.Fine false e = nope (cc)
+fine-fits (Check.Refused r) b e = nope (cc)
 
-next-quiet : (log : List ℕ) (w : Walk) (row : Row) → Quiet w → Quiet (nextWalk log w row)
-next-quiet log Start Junk q = refl
-next-quiet log Start (Good k x) q = held-quiet x
-next-quiet log (Within key x) Junk q = spoilt-quiet key x
-next-quiet log (Within key x) (Good k y) q = pick-quiet (sameString log key k) (Within k (laterHeld y x)) (closedBy k y x) (held-quiet (laterHeld y x)) (closed-quiet k y x)
-next-quiet log (Broken key x) Junk q = held-quiet x
-next-quiet log (Broken key x) (Good k y) q = pick-quiet (sameString log key k) (Over (Step.Refused BadStore)) (Over (heldAnswer x)) refl (held-quiet x)
-next-quiet log (Over a) row q = q
+-- ---- the numbers
 
-walk-quiet : (h : Handle) (log : List ℕ) (w : Walk) (ss : List Slot) → Quiet w → Quiet (walkIn h log w ss)
-unfolding walkIn
-walk-quiet h log w [] q = q
-walk-quiet h log w (s ∷ ss) q = walk-quiet h log (nextWalk log w (rowIn h log s)) ss (next-quiet log w (rowIn h log s) q)
+-- that of what follows the checks of every call
+abbrev lateNumber : Bool → Stepped → ℕ
+lateNumber b x = pick b (steppedNumber x) 4
 
-step-quiet : (h : Handle) (log : List ℕ) (ss : List Slot) → eqb (steppedNumber (stepIn h log ss)) 13 ≡ false
-unfolding stepIn
-step-quiet h log ss = walk-quiet h log Start ss refl
+number-behind : (c : Check) (b : Bool) (x : Stepped) → steppedNumber (checkedStep (keysBy c b) x) ≡ behind c (lateNumber b x)
+unfolding keysBy
+number-behind Check.Fine true x = refl
+number-behind Check.Fine false x = refl
+number-behind (Check.Refused r) b x = refl
 
-short-quiet : (b : Bool) (a : Stepped) → eqb (steppedNumber a) 13 ≡ false → eqb (steppedNumber (pick b a (Step.Refused KeyTooLong))) 13 ≡ false
-short-quiet true a q = q
-short-quiet false a q = refl
+module _ (h : Handle) (log : List ℕ) (ss : List Slot) where
+  late-bad : (b : Bool) → eqb (lateNumber b (stepIn h log ss)) 13 ≡ false
+  late-bad true = step-quiet 13 refl refl refl h log ss
+  late-bad false = refl
 
-checked-bad : (l : Stepped) (fits sound active : Bool) → eqb (steppedNumber l) 13 ≡ false → eqb (steppedNumber (checkedStep (admitBy fits sound active) l)) 13 ≡ not (pick fits sound false)
-unfolding admitBy
-checked-bad l true true true e = e
-checked-bad l true true false e = refl
-checked-bad l true false active e = refl
-checked-bad l false sound active e = refl
+  late-open : (b : Bool) → eqb (lateNumber b (stepIn h log ss)) 3 ≡ false
+  late-open true = step-quiet 3 refl refl refl h log ss
+  late-open false = refl
 
--- ---- the slots that the step reads, by a test of each key
+  late-long : (b : Bool) → eqb (lateNumber b (stepIn h log ss)) 4 ≡ not b
+  late-long true = step-quiet 4 refl refl refl h log ss
+  late-long false = refl
 
-two-lows : (a b e j : ℕ) → pick (leb a j) (pick (leb b j) (ltb j e) false) false ≡ between (max a b) e j
-two-lows a b e j = go (decLe a j) (decLe b j)
-  where
-    go : Dec (a ≤ j) → Dec (b ≤ j) → pick (leb a j) (pick (leb b j) (ltb j e) false) false ≡ between (max a b) e j
-    go (yes h) (yes g) = let m : max a b ≤ j = omega arith in rw (le-leb a j h, le-leb b j g, le-leb (max a b) j m)
-    go (yes h) (no g) = let l : j < b = omega arith in let m : j < max a b = omega arith in rw (le-leb a j h, lt-leb b j l, lt-leb (max a b) j m)
-    go (no h) d = let l : j < a = omega arith in let m : j < max a b = omega arith in rw (lt-leb a j l, lt-leb (max a b) j m)
+-- ---- the promise, of a step that reads the slots ss n of the first n
 
-last-from : (given : Bool) (log last : List ℕ) (ss : List Slot) → lastFrom given log last ss ≡ fromBound (lastBound given) log (lowBytes Excluded last) ss
-last-from true log last ss = refl
-last-from false log last ss = refl
+module _ (log : List ℕ) (used : ℕ) (t : List ℕ) (h : Handle) (short : Bool) (test : List ℕ → Bool) (ss : ℕ → List Slot) (same : Agrees log used t → ss (countOf t) ≡ keep test log (recovered log used)) where
+  abbrev live : Bool
+  live = liveOf log (activeKey h) (slotsOf (countOf t) t)
 
-module _ (lower : Bound) (low : List ℕ) (upper : Bound) (high : List ℕ) (given : Bool) (last log : List ℕ) where
-  scan-at : (ss : List Slot) → Sorted log ss → scanSlots lower low upper high given last log ss ≡ keep (scanned lower low upper high given last) log ss
-  unfolding scanSlots admitted orderAt
-  scan-at ss s =
-      let a : ℕ = fromBound (lowKind lower) log (lowBytes lower low) ss in
-      let b : ℕ = fromBound (lastBound given) log (lowBytes Excluded last) ss in
-      let e : ℕ = uptoBound (highKind upper) log (highBytes upper high) ss in
-      rw (last-from given log last ss) (sym (keep-slice log (scanned lower low upper high given last) (max a b) e ss
-      (λ j h. rw (low-test log (lowBytes lower low) ss s j h (lowKind lower), low-test log (lowBytes Excluded last) ss s j h (lastBound given), high-test log (highBytes upper high) ss s j h (highKind upper)) (two-lows a b e j))))
-
-  scan-agrees : (used : ℕ) (t : List ℕ) → Agrees log used t → scanSlots lower low upper high given last log (slotsOf (countOf t) t) ≡ keep (scanned lower low upper high given last) log (recovered log used)
-  scan-agrees used t g = rw (agrees-slots log used t g) (scan-at (recovered log used) (recovered-sorted log used))
-
--- ---- the promise
-
-module _ (log : List ℕ) (used : ℕ) (t : List ℕ) (h : Handle) (lower : Bound) (low : List ℕ) (upper : Bound) (high : List ℕ) (given : Bool) (last : List ℕ) where
-  abbrev steppedAt : Stepped
-  steppedAt =
-      scanAnswer (fit (length log) used (length t)) (soundHandle h) (openBy h (liveOf log (activeKey h) (slotsOf (countOf t) t))) (keysFit lower low upper high given last)
-      (stepIn h log (scanSlots lower low upper high given last log (slotsOf (countOf t) t)))
-
-  scans-keep : {r : Stepped} → r ≡ steppedAt → Scans log used t h lower low upper high given last r
+  scanning : {r : Stepped} → r ≡ scanAnswer (fit (length log) used (length t)) (soundHandle h) (openBy h live) short (stepIn h log (ss (countOf t))) → Scanning log used t h short test r
   unfolding scanAnswer
-  scans-keep e =
+  scanning {r} e =
       let f : Bool = fit (length log) used (length t) in
-      let live : Bool = liveOf log (activeKey h) (slotsOf (countOf t) t) in
-      let b : Bool = keysFit lower low upper high given last in
-      let x : Stepped = stepIn h log (scanSlots lower low upper high given last log (slotsOf (countOf t) t)) in
+      let g : Bool = soundHandle h in
+      let x : Stepped = stepIn h log (ss (countOf t)) in
+      let n : steppedNumber r ≡ behind (admitBy f g (openBy h live)) (lateNumber short x) = ap steppedNumber e ∙ number-behind (admitBy f g (openBy h live)) short x in
       record {
-        bad = ap (λ (y : Stepped). eqb (steppedNumber y) 13) e ∙ checked-bad (pick b x (Step.Refused KeyTooLong)) f (soundHandle h) (openBy h live) (short-quiet b x (step-quiet h log (scanSlots lower low upper high given last log (slotsOf (countOf t) t))));
-        answer = λ g. e ∙ rw (open-agrees log used t h g, scan-agrees lower low upper high given last log used t g);
+        bad = ap (λ (k : ℕ). eqb k 13) n ∙ behind-bad (lateNumber short x) f g (openBy h live) (late-bad h log (ss (countOf t)) short);
+        never = λ q. ap (λ (k : ℕ). eqb k 3) n ∙ rw (open-never h live q) (behind-never (lateNumber short x) f g);
+        ever = λ q. ap (λ (k : ℕ). eqb k 3) n ∙ rw (open-ever h live q) (behind-ever (lateNumber short x) f g (late-open h log (ss (countOf t)) short));
+        long = λ q. ap (λ (k : ℕ). eqb k 4) n ∙ rw (open-ever h live q) (behind-long (lateNumber short x) f g (not short) (late-long h log (ss (countOf t)) short));
+        answer = λ a. e ∙ rw (open-agrees log used t h a, same a);
       }
 
-  module _ {check : Check} (ek : check ≡ admitBy (fit (length log) used (length t)) (soundHandle h) (openBy h (liveOf log (activeKey h) (slotsOf (countOf t) t)))) where
-    pub scan-refused : (r : Refusal) → check ≡ Check.Refused r → Scans log used t h lower low upper high given last (Step.Refused r)
+  module _ {b : Bool} (eb : b ≡ short) {check : Check} (ek : check ≡ keysBy (admitBy (fit (length log) used (length t)) (soundHandle h) (openBy h live)) b) where
+    pub scan-refused : (r : Refusal) → check ≡ Check.Refused r → Scanning log used t h short test (Step.Refused r)
     unfolding scanAnswer
-    scan-refused r e = scans-keep (rw (← ek, e))
+    scan-refused r e = scanning (rw (← eb, ← ek, e))
 
-    module _ (e : check ≡ Check.Fine) where
-      scan-long : keysFit lower low upper high given last ≡ false → Scans log used t h lower low upper high given last (Step.Refused KeyTooLong)
-      unfolding scanAnswer
-      scan-long k = scans-keep (rw (← ek, e, k))
-
-      pub long-low : {a : Bool} → a ≡ keyFits lower low → a ≡ false → Scans log used t h lower low upper high given last (Step.Refused KeyTooLong)
-      long-low ea fa = scan-long (rw (← ea, fa))
-
-      module _ {a : Bool} (ea : a ≡ keyFits lower low) (ta : a ≡ true) where
-        pub long-high : {b : Bool} → b ≡ keyFits upper high → b ≡ false → Scans log used t h lower low upper high given last (Step.Refused KeyTooLong)
-        long-high eb fb = scan-long (rw (← ea, ta, ← eb, fb))
-
-        module _ {b : Bool} (eb : b ≡ keyFits upper high) (tb : b ≡ true) where
-          pub long-last : {c : Bool} → c ≡ lastFits given last → c ≡ false → Scans log used t h lower low upper high given last (Step.Refused KeyTooLong)
-          long-last ec fc = scan-long (rw (← ea, ta, ← eb, tb, ← ec, fc))
-
-          pub scan-done : {c : Bool} {n : ℕ} {r : Stepped} → c ≡ lastFits given last → c ≡ true → n ≡ countOf t → r ≡ stepIn h log (scanSlots lower low upper high given last log (slotsOf n t)) → Scans log used t h lower low upper high given last r
-          unfolding scanAnswer
-          scan-done ec tc en er = scans-keep (rw (← ek, e, ← ea, ta, ← eb, tb, ← ec, tc, ← en) er)
+    pub scan-done : check ≡ Check.Fine → {n : ℕ} {r : Stepped} → n ≡ countOf t → r ≡ stepIn h log (ss n) → Scanning log used t h short test r
+    unfolding scanAnswer
+    scan-done e en er = scanning (rw (← eb, ← ek, e, ← en) er)

@@ -7,11 +7,13 @@ use lib.ListN.{length}
 use Rattle.keycode.specs.Tests.{pick}
 use Rattle.keycode.specs.Limits.{maxKey}
 use Rattle.keys.specs.Keys.{encode, version}
+use Rattle.keycode.specs.Order.{compareBytes}
+use Rattle.keycode.specs.Prefix.{prefixEnd, searched}
 use Rattle.keydir.specs.declared.slots.Slot.{Slot}
 use Rattle.bitcask.specs.declared.answers.Bound.{Bound}
 use Rattle.bitcask.specs.declared.answers.Bound.the-variants.{Included, Excluded, Unbounded}
-use Rattle.bitcask.specs.Ranks.{admitted, fromBound, uptoBound}
-use Rattle.txn.specs.Ranges.{slice}
+use Rattle.bitcask.specs.Ranks.{admitsLow, lastBound, admitted, fromBound, uptoBound}
+use Rattle.txn.specs.Ranges.{begins, slice, endBound, endBytes}
 
 -- the highest version that a key can have
 abbrev pub lastVersion : ℕ
@@ -30,6 +32,10 @@ lastFits false k = true
 -- every key that the call is handed
 abbrev pub keysFit : Bound → List ℕ → Bound → List ℕ → Bool → List ℕ → Bool
 keysFit lower low upper high given last = pick (keyFits lower low) (pick (keyFits upper high) (lastFits given last) false) false
+
+-- the same of a prefix step
+abbrev pub prefixFits : List ℕ → Bool → List ℕ → Bool
+prefixFits p given last = pick (leb (length p) maxKey) (lastFits given last) false
 
 -- from a key's first version on, or from behind its last; none starts at the first Version key
 abbrev pub lowKind : Bound → Bound
@@ -58,11 +64,23 @@ abbrev pub lastFrom : Bool → List ℕ → List ℕ → List Slot → ℕ
 lastFrom true log last ss = fromBound Excluded log (lowBytes Excluded last) ss
 lastFrom false log last ss = 0
 
--- the slots within the bounds and past the last given key
-unfoldable pub scanSlots : Bound → List ℕ → Bound → List ℕ → Bool → List ℕ → List ℕ → List Slot → List Slot
-scanSlots lower low upper high given last log ss =
-    slice (max (fromBound (lowKind lower) log (lowBytes lower low) ss) (lastFrom given log last ss)) (uptoBound (highKind upper) log (highBytes upper high) ss) ss
+-- the slots within two bounds of engine keys and past the last given key
+unfoldable pub pastSlots : Bound → List ℕ → Bound → List ℕ → Bool → List ℕ → List ℕ → List Slot → List Slot
+pastSlots lower low upper high given last log ss = slice (max (fromBound lower log low ss) (lastFrom given log last ss)) (uptoBound upper log high ss) ss
 
--- the same by a test of each key
+-- within two bounds of user keys
+abbrev pub scanSlots : Bound → List ℕ → Bound → List ℕ → Bool → List ℕ → List ℕ → List Slot → List Slot
+scanSlots lower low upper high given last log ss = pastSlots (lowKind lower) (lowBytes lower low) (highKind upper) (highBytes upper high) given last log ss
+
+-- from a prefix's code to its end
+abbrev pub prefixSlots : List ℕ → Bool → List ℕ → List ℕ → List Slot → List Slot
+prefixSlots p given last log ss = pastSlots Included (searched p) (endBound (prefixEnd (searched p))) (endBytes (searched p) (prefixEnd (searched p))) given last log ss
+
+-- ---- the same by a test of each key
+
 abbrev pub scanned : Bound → List ℕ → Bound → List ℕ → Bool → List ℕ → List ℕ → Bool
 scanned lower low upper high given last = admitted (lowKind lower) (lowBytes lower low) (highKind upper) (highBytes upper high) given (lowBytes Excluded last)
+
+-- a key that begins with the prefix's code and lies behind the last version of the last given key
+unfoldable pub prefixed : List ℕ → Bool → List ℕ → List ℕ → Bool
+prefixed p given last k = pick (begins (searched p) k) (admitsLow (lastBound given) (compareBytes k (lowBytes Excluded last))) false

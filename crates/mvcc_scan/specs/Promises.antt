@@ -1,4 +1,4 @@
--- What a scan step promises, in parts. Request: the number that needs no table, exactly in its case. Agreed: where the table agrees with
+-- What a scan step promises, in parts. Request: the numbers that need no table, exactly in their cases. Agreed: where the table agrees with
 -- the log, the answer is the map's. Nothing that is lent can change, as there is no slice to write to. Assumes nothing.
 use Prim.Native.Nat.{ℕ}
 use mathlib.Core.Path.{_≡_}
@@ -8,7 +8,7 @@ use lib.Dec.{eqb}
 use lib.ListN.{length}
 use Rattle.keycode.specs.Tests.{pick}
 use Rattle.keycode.specs.declared.refusal.Refusal.the-variants.{KeyTooLong}
-use Rattle.recovery.specs.Recover.{recovered, mapOf}
+use Rattle.recovery.specs.Recover.{recovered}
 use Rattle.recovery.specs.Agree.{fit, Agrees}
 use Rattle.bitcask.specs.declared.append.Check.{Check}
 use Rattle.bitcask.specs.declared.append.Check.the-variants as Check
@@ -19,22 +19,36 @@ use Rattle.bitcask.specs.Promises.{steppedNumber}
 use Rattle.handle.specs.declared.handle.Handle.{Handle}
 use Rattle.handle.specs.Handles.{soundHandle}
 use Rattle.txn.specs.Ranges.{keep}
-use Rattle.txn.specs.Checks.{admitBy, asked, openIn}
+use Rattle.txn.specs.Checks.{openBy, admitBy, asked, openIn}
 use Rattle.mvcc_scan.specs.Walks.{stepIn}
-use Rattle.mvcc_scan.specs.Bounds.{keysFit, scanned}
+use Rattle.mvcc_scan.specs.Bounds.{keysFit, prefixFits, scanned, prefixed}
 
 abbrev pub checkedStep : Check → Stepped → Stepped
 checkedStep Check.Fine l = l
 checkedStep (Check.Refused r) l = Step.Refused r
 
+-- 4 behind the checks of every call
+unfoldable pub keysBy : Check → Bool → Check
+keysBy Check.Fine fits = pick fits Check.Fine (Check.Refused KeyTooLong)
+keysBy (Check.Refused r) fits = Check.Refused r
+
 -- 13, 3, 4, and then what the walk says: 12 or 1, or the places of a key and its value
 unfoldable pub scanAnswer : Bool → Bool → Bool → Bool → Stepped → Stepped
-scanAnswer fits sound active short step = checkedStep (admitBy fits sound active) (pick short step (Step.Refused KeyTooLong))
+scanAnswer fits sound active short step = checkedStep (keysBy (admitBy fits sound active) short) step
 
-pub record Scans (log : List ℕ) (used : ℕ) (t : List ℕ) (h : Handle) (lower : Bound) (low : List ℕ) (upper : Bound) (high : List ℕ) (given : Bool) (last : List ℕ) (r : Stepped) : Type 0 where
-  -- request
+-- of a step whose keys are short enough, or not, over the keys that a test admits
+pub record Scanning (log : List ℕ) (used : ℕ) (t : List ℕ) (h : Handle) (short : Bool) (test : List ℕ → Bool) (r : Stepped) : Type 0 where
+  -- request: 13; 3 always of a handle that no store has open, and never of one that every store has; 4 of the latter
   pub bad : eqb (steppedNumber r) 13 ≡ not (asked log used t h)
+  pub never : openBy h true ≡ false → eqb (steppedNumber r) 3 ≡ asked log used t h
+  pub ever : openBy h false ≡ true → eqb (steppedNumber r) 3 ≡ false
+  pub long : openBy h false ≡ true → eqb (steppedNumber r) 4 ≡ pick (asked log used t h) (not short) false
   -- agreed
   pub answer : Agrees log used t
-      → r ≡ scanAnswer (fit (length log) used (length t)) (soundHandle h) (openIn log used h) (keysFit lower low upper high given last)
-      (stepIn h log (keep (scanned lower low upper high given last) log (recovered log used)))
+      → r ≡ scanAnswer (fit (length log) used (length t)) (soundHandle h) (openIn log used h) short (stepIn h log (keep test log (recovered log used)))
+
+abbrev pub Scans : List ℕ → ℕ → List ℕ → Handle → Bound → List ℕ → Bound → List ℕ → Bool → List ℕ → Stepped → Type 0
+Scans log used t h lower low upper high given last r = Scanning log used t h (keysFit lower low upper high given last) (scanned lower low upper high given last) r
+
+abbrev pub ScansPrefix : List ℕ → ℕ → List ℕ → Handle → List ℕ → Bool → List ℕ → Stepped → Type 0
+ScansPrefix log used t h prefix given last r = Scanning log used t h (prefixFits prefix given last) (prefixed prefix given last) r

@@ -15,8 +15,9 @@ ghost use lib.ListN.{length};
 ghost use Rattle.keydir.specs.Slots.{slotWords, slotsOf};
 ghost use Rattle.bitcask.specs.Ranks.{fromBound, uptoBound};
 ghost use Rattle.handle.specs.Codes.{Codes};
+ghost use Rattle.txn.specs.Ranges.{slice};
 ghost use Rattle.mvcc_scan.specs.Walks.{stepIn};
-ghost use Rattle.mvcc_scan.specs.Bounds.{keyFits, lastFits, lowKind, lowBytes, highKind, highBytes, lastFrom, scanSlots};
+ghost use Rattle.mvcc_scan.specs.Bounds.{keyFits, lastFits, keysFit, lowKind, lowBytes, highKind, highBytes, lastFrom, scanSlots};
 
 // The highest version that a key can have.
 const LAST_VERSION: u64 = 0xffff_ffff_ffff_ffff;
@@ -106,6 +107,24 @@ fn most(a: usize, b: usize) -> usize
     if a < b { b } else { a }
 }
 
+// The step over the slots from number `from` on, or from past the last given key where that lies later, to `to`.
+pub fn step_past(
+    log: &[u8],
+    table: &[u32],
+    count: usize,
+    handle: Handle,
+    from: usize,
+    to: usize,
+    given: bool,
+    last: &[u8],
+) -> Stepped
+    requires { ⌜ (slotWords * count ≤ length (now table)) × ((to ≤ count) × (lastFits given (now last) ≡ true)) ⌝ }
+    ensures { λ r. ⌜ r ≡ stepIn handle (now (log .entry)) (slice (max from (lastFrom given (now (log .entry)) (now (last .entry)) (slotsOf count (now (table .entry))))) to (slotsOf count (now (table .entry)))) ⌝ }
+{
+    let past = from_last(log, table, count, given, last);
+    step_in(log, table, count, most(from, past), to, handle)
+}
+
 // The step over the slots within the bounds and past the last given key.
 pub fn step_between(
     log: &[u8],
@@ -119,12 +138,10 @@ pub fn step_between(
     given: bool,
     last: &[u8],
 ) -> Stepped
-    requires { ⌜ (slotWords * count ≤ length (now table)) × ((keyFits lower (now low) ≡ true) × ((keyFits upper (now high) ≡ true) × (lastFits given (now last) ≡ true))) ⌝ }
+    requires { ⌜ (slotWords * count ≤ length (now table)) × (keysFit lower (now low) upper (now high) given (now last) ≡ true) ⌝ }
     ensures { λ r. ⌜ r ≡ stepIn handle (now (log .entry)) (scanSlots lower (now (low .entry)) upper (now (high .entry)) given (now (last .entry)) (now (log .entry)) (slotsOf count (now (table .entry)))) ⌝ }
 {
-    let a = from_low(log, table, count, lower, low);
-    let b = from_last(log, table, count, given, last);
-    let from = most(a, b);
+    let from = from_low(log, table, count, lower, low);
     let to = upto_high(log, table, count, upper, high);
-    step_in(log, table, count, from, to, handle)
+    step_past(log, table, count, handle, from, to, given, last)
 }

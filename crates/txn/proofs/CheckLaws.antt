@@ -18,13 +18,14 @@ use Rattle.keydir.specs.Slots.{slotsOf}
 use Rattle.keydir.specs.Place.{countOf}
 use Rattle.recovery.specs.Recover.{mapOf}
 use Rattle.recovery.specs.Agree.{fit, Agrees}
+use Rattle.bitcask.specs.declared.append.Check.{Check}
 use Rattle.bitcask.specs.declared.append.Check.the-variants.{Fine, Refused}
 use Rattle.handle.specs.declared.code.Code.{Code}
 use Rattle.handle.specs.declared.handle.Handle.{Handle}
 use Rattle.handle.specs.Codes.{Codes}
 use Rattle.handle.specs.Handles.{soundHandle}
 use Rattle.txn.specs.Looks.{liveOf, liveIn}
-use Rattle.txn.specs.Checks.{activeKey, ownVersion, openBy, admitBy, checkNumber}
+use Rattle.txn.specs.Checks.{activeKey, ownVersion, openBy, admitBy, checkNumber, onFine}
 use Rattle.txn.proofs.LookLaws.{live-agrees}
 
 -- ---- open
@@ -120,3 +121,54 @@ admit-fine true true true e = record { sizes = refl; handle = refl; opened = ref
 admit-fine true true false e = nope (cc)
 admit-fine true false active e = nope (cc)
 admit-fine false sound active e = nope (cc)
+
+-- ---- handles that every store has open, and handles that none has: what needs no table of number 3
+
+open-by : (a b live : Bool) → pick a true (pick b true false) ≡ false → pick a true (pick b live false) ≡ false
+open-by true b live e = nope (cc)
+open-by false true live e = nope (cc)
+open-by false false live e = refl
+
+pub open-never : (h : Handle) (live : Bool) → openBy h true ≡ false → openBy h live ≡ false
+unfolding openBy
+open-never h live e = open-by (h .«read_only») (ownVersion (h .version)) live e
+
+read-by : (a b live : Bool) → pick a true (pick b false false) ≡ true → pick a true (pick b live false) ≡ true
+read-by true b live e = refl
+read-by false true live e = nope (cc)
+read-by false false live e = nope (cc)
+
+pub open-ever : (h : Handle) (live : Bool) → openBy h false ≡ true → openBy h live ≡ true
+unfolding openBy
+open-ever h live e = read-by (h .«read_only») (ownVersion (h .version)) live e
+
+-- ---- the number of an answer that comes behind the checks, n being that of what follows them
+
+abbrev pub behind : Check → ℕ → ℕ
+behind c n = onFine c n (checkNumber c)
+
+module _ (n : ℕ) where
+  pub behind-bad : (fits sound active : Bool) → eqb n 13 ≡ false → eqb (behind (admitBy fits sound active) n) 13 ≡ not (pick fits sound false)
+  unfolding admitBy
+  behind-bad true true true e = e
+  behind-bad true true false e = refl
+  behind-bad true false active e = refl
+  behind-bad false sound active e = refl
+
+  pub behind-never : (fits sound : Bool) → eqb (behind (admitBy fits sound false) n) 3 ≡ pick fits sound false
+  unfolding admitBy
+  behind-never true true = refl
+  behind-never true false = refl
+  behind-never false sound = refl
+
+  pub behind-ever : (fits sound : Bool) → eqb n 3 ≡ false → eqb (behind (admitBy fits sound true) n) 3 ≡ false
+  unfolding admitBy
+  behind-ever true true e = e
+  behind-ever true false e = refl
+  behind-ever false sound e = refl
+
+  pub behind-long : (fits sound b : Bool) → eqb n 4 ≡ b → eqb (behind (admitBy fits sound true) n) 4 ≡ pick (pick fits sound false) b false
+  unfolding admitBy
+  behind-long true true b e = e
+  behind-long true false b e = refl
+  behind-long false sound b e = refl

@@ -2,7 +2,6 @@
 pub mod RangeLaws
 pub mod LookLaws
 pub mod CheckLaws
-pub mod OpenLaws
 pub mod ListLaws
 pub mod FitLaws
 pub mod SpanLaws

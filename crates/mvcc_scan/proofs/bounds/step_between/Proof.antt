@@ -1,32 +1,26 @@
--- `step_between`: the walk from the later of the two starts.
+-- `step_between`: the ranks of the two bounds, and the step past the last given key.
 use Rattle.keydir.specs.Slots.{slotsOf}
-use Rattle.mvcc_scan.proofs.BoundLaws.{step-by}
-use borrow.Author.Needs.{needs}
+use Rattle.mvcc_scan.proofs.BoundLaws.{keys-low, keys-high, keys-last, between-by}
 use Rattle.mvcc_scan.proofs.bounds.step_between.Statement.{statement}
 use Rattle.mvcc_scan.proofs.bounds.step_between.Tie as tie
 
 from-low-requires : tie.Need-from-low-requires
-from-low-requires c κs = (c .before .before .before .before .before .pre .0, c .before .before .before .before .before .pre .1 .0)
-
-from-last-requires : tie.Need-from-last-requires
-from-last-requires c κs = (c .before .before .before .before .before .before .pre .0, c .before .before .before .before .before .before .pre .1 .1 .1)
+from-low-requires c κs = let a = c .before .before .before .before .before .args in (c .before .before .before .before .before .pre .0, keys-low (a .lower) (a .low .now) (a .upper) (a .high .now) (a .given) (a .last .now) (c .before .before .before .before .before .pre .1))
 
 upto-high-requires : tie.Need-upto-high-requires
-upto-high-requires c κs = (c .before .before .before .before .before .before .before .before .pre .0, c .before .before .before .before .before .before .before .before .pre .1 .1 .0)
+upto-high-requires c κs = let a = c .before .before .before .before .before .before .args in (c .before .before .before .before .before .before .pre .0, keys-high (a .lower) (a .low .now) (a .upper) (a .high .now) (a .given) (a .last .now) (c .before .before .before .before .before .before .pre .1))
 
-step-in-requires : tie.Need-step-in-requires
-step-in-requires c κs = (c .before .before .before .before .before .before .before .before .before .pre .0, c .upto-high .ensures .1)
+step-past-requires : tie.Need-step-past-requires
+step-past-requires c κs = let a = c .before .before .before .before .before .before .before .args in (c .before .before .before .before .before .before .before .pre .0, (c .upto-high .ensures .1, keys-last (a .lower) (a .low .now) (a .upper) (a .high .now) (a .given) (a .last .now) (c .before .before .before .before .before .before .before .pre .1)))
 
 returns : tie.Need-returns
-returns c = let a = c .before .before .before .before .before .before .before .before .before .before .args in step-by (a .handle) (a .log .now) (slotsOf (a .count) (a .table .now)) (a .lower) (a .low .now) (a .upper) (a .high .now) (a .given) (a .last .now) (c .before .before .before .before .from-low .ensures) (c .before .before .before .from-last .ensures) (c .before .before .most .ensures) (c .before .upto-high .ensures .0) (c .step-in .ensures)
+returns c = let a = c .before .before .before .before .before .before .before .before .args in between-by (a .handle) (a .log .now) (slotsOf (a .count) (a .table .now)) (a .given) (a .last .now) _ _ (c .step-past .ensures) (a .lower) (a .low .now) (a .upper) (a .high .now) (c .before .before .from-low .ensures) (c .before .upto-high .ensures .0)
 
 pub step-between-spec : {M : Type 1} → statement M
 step-between-spec =
     tie.close
     (tie.spec
     from-low-requires
-    from-last-requires
-    (λ c κs. search needs)
     upto-high-requires
-    step-in-requires
+    step-past-requires
     returns)

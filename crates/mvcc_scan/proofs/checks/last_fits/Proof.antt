@@ -3,8 +3,8 @@ use mathlib.Core.Path.{sym, ap, _∙_}
 use mathlib.Core.Bool.{Bool}
 use Rattle.mvcc_scan.specs.Bounds.{lastFits}
 use borrow.Author.Needs.{needs}
-use Rattle.mvcc_scan.proofs.scan.last_fits.Statement.{statement}
-use Rattle.mvcc_scan.proofs.scan.last_fits.Tie as tie
+use Rattle.mvcc_scan.proofs.checks.last_fits.Statement.{statement}
+use Rattle.mvcc_scan.proofs.checks.last_fits.Tie as tie
 
 returns : tie.Need-returns
 returns c = c .short .ensures ∙ ap (λ (b : Bool). lastFits b (c .before .before .before .args .last .now)) (sym (c .before .if1 .taken))

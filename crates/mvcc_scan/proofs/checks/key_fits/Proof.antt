@@ -3,8 +3,8 @@ use mathlib.Core.Path.{sym, ap, _∙_}
 use Rattle.bitcask.specs.declared.answers.Bound.{Bound}
 use Rattle.mvcc_scan.specs.Bounds.{keyFits}
 use borrow.Author.Needs.{needs}
-use Rattle.mvcc_scan.proofs.scan.key_fits.Statement.{statement}
-use Rattle.mvcc_scan.proofs.scan.key_fits.Tie as tie
+use Rattle.mvcc_scan.proofs.checks.key_fits.Statement.{statement}
+use Rattle.mvcc_scan.proofs.checks.key_fits.Tie as tie
 
 returns : tie.Need-returns
 returns c = c .short .ensures ∙ ap (λ (b : Bound). keyFits b (c .before .before .before .before .args .key .now)) (sym (c .before .enum-told .given .1))

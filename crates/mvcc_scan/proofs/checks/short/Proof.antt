@@ -2,8 +2,8 @@
 use mathlib.Core.Path.{sym}
 use borrow.Author.Tests.{le-leb, lt-leb}
 use borrow.Author.Needs.{needs}
-use Rattle.mvcc_scan.proofs.scan.short.Statement.{statement}
-use Rattle.mvcc_scan.proofs.scan.short.Tie as tie
+use Rattle.mvcc_scan.proofs.checks.short.Statement.{statement}
+use Rattle.mvcc_scan.proofs.checks.short.Tie as tie
 
 returns : tie.Need-returns
 returns c = sym (lt-leb _ _ (c .if1 .taken))
