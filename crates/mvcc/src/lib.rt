@@ -15,6 +15,7 @@ pub use mvcc_end::rollback::rollback;
 pub use mvcc_read::get::get;
 pub use mvcc_read::resume::resume;
 pub use mvcc_read::unversioned::get_unversioned;
+pub use mvcc_scan::prefix::scan_prefix_step;
 pub use mvcc_scan::scan::scan_step;
 pub use mvcc_write::change::delete;
 pub use mvcc_write::change::set;

@@ -1,0 +1,52 @@
+-- Handles given: what a call adds to the handles that were given before, and how the history counts the call that gave one. Assumes
+-- nothing.
+use Prim.Native.Nat.{ℕ}
+use mathlib.Core.Path.{_≡_, refl, sym, ap, _∙_, subst}
+use mathlib.Core.Logic.{_⊎_, inl, inr}
+use mathlib.Core.List.{List, [], _∷_}
+use Rattle.keycode.specs.Refusals.{numberOf}
+use Rattle.keycode.specs.declared.refusal.Refusal.{Refusal}
+use Rattle.keycode.proofs.Basics.{nope}
+use Rattle.recovery.specs.declared.request.Used.{Used}
+use Rattle.recovery.specs.declared.request.Changed.{Changed}
+use Rattle.recovery.specs.declared.request.Changed.the-variants.{Done, Refused}
+use Rattle.recovery.specs.Promises.{changedNumber}
+use Rattle.handle.specs.declared.handle.Handle.{Handle}
+use Rattle.txn.specs.declared.begun.Begun.{Begun}
+use Rattle.txn.proofs.CheckLaws.{not-done}
+use Rattle.history.specs.History.{After, now, later}
+use Rattle.history.specs.Run.{Entry, beginE, readE, asOfE, otherE, Trace}
+use Rattle.history.specs.Run as H
+use Rattle.records.specs.Stored.{sightOf}
+use Rattle.isolation.specs.World.{Call, begins, beginsReading, beginsAsOf, Calls, Gave, Given, by-begin, by-reading, by-asOf, onDone, entryOf, traceOf}
+
+-- ---- later calls
+
+pub after-cons : {A : Type 0} {e c : A} {T₁ T : List A} → After (e ∷ T₁) (c ∷ T) → ((e ≡ c) × (T₁ ≡ T)) ⊎ After (e ∷ T₁) T
+after-cons now = inl (refl, refl)
+after-cons (later a) = inr a
+
+pub after-trace : {T₁ T : Calls} → After T₁ T → After (traceOf T₁) (traceOf T)
+unfolding traceOf
+after-trace now = now
+after-trace (later a) = later (after-trace a)
+
+-- ---- an answer 0
+
+pub done-is : (r : Changed) → changedNumber r ≡ 0 → (u : Used) × (r ≡ Done u)
+done-is (Done u) z = (u, refl)
+done-is (Refused r) z = absurd (not-done r z)
+
+begun-entry : (r : Begun) {h : Handle} → Gave r h → (f : Handle → Entry) → onDone (r .answer) (f (r .handle)) otherE ≡ f h
+begun-entry r {h} (z, e) f = let d = done-is (r .answer) z in rw (d .1) (ap f e)
+
+-- ---- as the history counts it
+
+pub given-trace : {h : Handle} {T : Calls} → Given h T → (T₁ : Trace) × H.Gave (sightOf h) T₁ (traceOf T)
+unfolding traceOf
+given-trace {h} {T} (by-begin {r = r} {T₁ = T₁} a g) =
+    (traceOf T₁, H.by-begin (subst (λ (e : Entry). After (e ∷ traceOf T₁) (traceOf T)) (begun-entry r g (λ (x : Handle). beginE (sightOf x))) (after-trace a)))
+given-trace {h} {T} (by-reading {r = r} {T₁ = T₁} a g) =
+    (traceOf T₁, H.by-read (subst (λ (e : Entry). After (e ∷ traceOf T₁) (traceOf T)) (begun-entry r g (λ (x : Handle). readE (sightOf x))) (after-trace a)))
+given-trace {h} {T} (by-asOf {v = v} {r = r} {T₁ = T₁} a g) =
+    (traceOf T₁, H.by-asOf v (subst (λ (e : Entry). After (e ∷ traceOf T₁) (traceOf T)) (begun-entry r g (λ (x : Handle). asOfE v (sightOf x))) (after-trace a)))

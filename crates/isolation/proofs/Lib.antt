@@ -1,0 +1,4 @@
+-- Snapshot isolation, proved over what the public calls state.
+pub mod GivenLaws
+pub mod EndedLaws
+pub mod KeptLaws

@@ -1,0 +1,2 @@
+-- Runs of the store by what its public calls state.
+pub mod World

@@ -1,0 +1,1 @@
+// Snapshot isolation over the public calls: definitions and theorems, and no code.
