@@ -1,6 +1,6 @@
 -- Under agreement the slots that a step reads are those of the recovered slots whose keys its test admits. Assumes nothing.
 use Prim.Native.Nat.{ℕ, _≤_, _<_, max}
-use mathlib.Core.Path.{_≡_, refl, sym, ap, _∙_}
+use mathlib.Core.Path.{_≡_, refl, sym, _∙_}
 use mathlib.Core.Bool.{Bool, true, false}
 use mathlib.Core.List.{List}
 use native.Mathlib.Decide.{decLe}
@@ -22,7 +22,7 @@ use Rattle.bitcask.specs.declared.answers.Bound.{Bound}
 use Rattle.bitcask.specs.declared.answers.Bound.the-variants.{Included, Excluded}
 use Rattle.bitcask.specs.Ranks.{fromBound, uptoBound, lastBound, admitsLow, admitsHigh, admitted}
 use Rattle.bitcask.proofs.ScanLaws.{between, low-test, high-test}
-use Rattle.txn.specs.Ranges.{inside, begins, keep, endBound, endBytes}
+use Rattle.txn.specs.Ranges.{inside, keep, endBound, endBytes}
 use Rattle.txn.proofs.RangeLaws.{keep-slice, keep-same, begins-inside}
 use Rattle.mvcc_scan.specs.Bounds.{lowKind, lowBytes, highKind, highBytes, lastFrom, pastSlots, scanSlots, prefixSlots, scanned, prefixed}
 
