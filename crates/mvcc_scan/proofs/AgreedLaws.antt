@@ -1,6 +1,6 @@
 -- Under agreement the slots that a step reads are those of the recovered slots whose keys its test admits. Assumes nothing.
 use Prim.Native.Nat.{ℕ, _≤_, _<_, max}
-use mathlib.Core.Path.{_≡_, refl, sym, _∙_}
+use mathlib.Core.Path.{_≡_, refl, sym, ap, _∙_}
 use mathlib.Core.Bool.{Bool, true, false}
 use mathlib.Core.List.{List}
 use native.Mathlib.Decide.{decLe}
@@ -73,9 +73,9 @@ module _ (p : List ℕ) (given : Bool) (last : List ℕ) where
   prefix-test : (k : List ℕ) → Bytes k → admitted Included (searched p) (endBound (prefixEnd (searched p))) (endBytes (searched p) (prefixEnd (searched p))) given (lowBytes Excluded last) k ≡ prefixed p given last k
   unfolding admitted prefixed inside
   prefix-test k b =
-      rw (begins-inside (searched p) k b)
-      (three-tests (admitsLow Included (compareBytes k (searched p))) (admitsLow (lastBound given) (compareBytes k (lowBytes Excluded last)))
-      (admitsHigh (endBound (prefixEnd (searched p))) (compareBytes k (endBytes (searched p) (prefixEnd (searched p))))))
+      let l : Bool = admitsLow (lastBound given) (compareBytes k (lowBytes Excluded last)) in
+      three-tests (admitsLow Included (compareBytes k (searched p))) l (admitsHigh (endBound (prefixEnd (searched p))) (compareBytes k (endBytes (searched p) (prefixEnd (searched p)))))
+      ∙ ap (λ (x : Bool). pick x l false) (sym (begins-inside (searched p) k b))
 
   pub prefix-agrees : (log : List ℕ) → Bytes log → (used : ℕ) (t : List ℕ) → Agrees log used t
       → prefixSlots p given last log (slotsOf (countOf t) t) ≡ keep (prefixed p given last) log (recovered log used)
