@@ -1,10 +1,9 @@
 -- What get shows of the map: the bytes at the place that it answers, and what its refusals mean. Assumes nothing.
-use Prim.Native.Nat.{ℕ, zero, suc, _+_, _-_}
+use Prim.Native.Nat.{ℕ, _+_, _-_}
 use mathlib.Core.Path.{_≡_, refl, sym, ap, _∙_}
 use mathlib.Core.Bool.{Bool, true, false}
 use mathlib.Core.Option.{Option, none, some}
 use mathlib.Core.List.{List, [], _∷_}
-use native.Mathlib.Omega.{arith}
 use lib.Dec.{leb}
 use lib.ListN.{length, take, drop}
 use lib.Seq.{drop-drop}
@@ -32,6 +31,7 @@ use Rattle.handle.specs.Payloads.{valueIn, valueAt}
 use Rattle.txn.specs.Ranges.{keep, pairsOf}
 use Rattle.txn.specs.Checks.{admitBy, openIn}
 use Rattle.txn.proofs.RangeLaws.{keep-map}
+use Rattle.txn.proofs.LookLaws.{drop-take}
 use Rattle.mvcc_read.specs.declared.seen.Seen.{Seen}
 use Rattle.mvcc_read.specs.declared.seen.Seen.the-variants.{Hidden, Gone, Bad, Value}
 use Rattle.mvcc_read.specs.Seen.{versionOf, saysBy, valueSays, seenBy, seenIn, orElse, lastSeen, locatedSeen, versionTest, pairBy, pairSays, orPair, lastPair, orGone, valueFor}
@@ -45,16 +45,6 @@ shownBy log Hidden = none
 shownBy log Gone = some (some none)
 shownBy log Bad = some none
 shownBy log (Value p) = some (some (some (take (p .len) (drop (p .at) log))))
-
-take-none : (n : ℕ) → take {A = ℕ} n [] ≡ []
-take-none zero = refl
-take-none (suc n) = refl
-
-drop-take : (k n : ℕ) (xs : List ℕ) → take (n - k) (drop k xs) ≡ drop k (take n xs)
-drop-take zero n xs = let e : n - 0 ≡ n = omega arith in ap (λ (m : ℕ). take m xs) e
-drop-take (suc k) n [] = let a : take (n - suc k) [] ≡ [] = take-none (n - suc k) in a ∙ ap (drop (suc k)) (sym (take-none n))
-drop-take (suc k) zero (x ∷ xs) = let e : 0 - suc k ≡ 0 = omega arith in ap (λ (m : ℕ). take m (drop k xs)) e
-drop-take (suc k) (suc n) (x ∷ xs) = let e : suc n - suc k ≡ n - k = omega arith in ap (λ (m : ℕ). take m (drop k xs)) e ∙ drop-take k n xs
 
 module _ (h : Handle) (log : List ℕ) where
   value-view : (s : Slot) (v : ValueRead) → shownBy log (saysBy (valuePart s) v) ≡ some (valueAt (valueOf log s) v)

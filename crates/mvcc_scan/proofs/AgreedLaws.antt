@@ -22,7 +22,7 @@ use Rattle.bitcask.specs.declared.answers.Bound.{Bound}
 use Rattle.bitcask.specs.declared.answers.Bound.the-variants.{Included, Excluded}
 use Rattle.bitcask.specs.Ranks.{fromBound, uptoBound, lastBound, admitsLow, admitsHigh, admitted}
 use Rattle.bitcask.proofs.ScanLaws.{between, low-test, high-test}
-use Rattle.txn.specs.Ranges.{inside, begins, keep, endBound, endBytes}
+use Rattle.txn.specs.Ranges.{inside, keep, endBound, endBytes}
 use Rattle.txn.proofs.RangeLaws.{keep-slice, keep-same, begins-inside}
 use Rattle.mvcc_scan.specs.Bounds.{lowKind, lowBytes, highKind, highBytes, lastFrom, pastSlots, scanSlots, prefixSlots, scanned, prefixed}
 
@@ -73,9 +73,9 @@ module _ (p : List ℕ) (given : Bool) (last : List ℕ) where
   prefix-test : (k : List ℕ) → Bytes k → admitted Included (searched p) (endBound (prefixEnd (searched p))) (endBytes (searched p) (prefixEnd (searched p))) given (lowBytes Excluded last) k ≡ prefixed p given last k
   unfolding admitted prefixed inside
   prefix-test k b =
-      rw (begins-inside (searched p) k b)
-      (three-tests (admitsLow Included (compareBytes k (searched p))) (admitsLow (lastBound given) (compareBytes k (lowBytes Excluded last)))
-      (admitsHigh (endBound (prefixEnd (searched p))) (compareBytes k (endBytes (searched p) (prefixEnd (searched p))))))
+      let l : Bool = admitsLow (lastBound given) (compareBytes k (lowBytes Excluded last)) in
+      three-tests (admitsLow Included (compareBytes k (searched p))) l (admitsHigh (endBound (prefixEnd (searched p))) (compareBytes k (endBytes (searched p) (prefixEnd (searched p)))))
+      ∙ ap (λ (x : Bool). pick x l false) (sym (begins-inside (searched p) k b))
 
   pub prefix-agrees : (log : List ℕ) → Bytes log → (used : ℕ) (t : List ℕ) → Agrees log used t
       → prefixSlots p given last log (slotsOf (countOf t) t) ≡ keep (prefixed p given last) log (recovered log used)

@@ -13,7 +13,7 @@ use Rattle.keycode.specs.Prefix.{searched}
 use Rattle.keydir.specs.declared.slots.Slot.{Slot}
 use Rattle.recovery.proofs.AgreeLaws.{both}
 use Rattle.bitcask.specs.declared.answers.Bound.{Bound}
-use Rattle.bitcask.specs.declared.answers.Bound.the-variants.{Included, Excluded, Unbounded}
+use Rattle.bitcask.specs.declared.answers.Bound.the-variants.{Included, Excluded}
 use Rattle.bitcask.specs.declared.answers.Stepped.{Stepped}
 use Rattle.bitcask.specs.Ranks.{fromBound, uptoBound}
 use Rattle.handle.specs.declared.code.Code.{Code}

@@ -5,4 +5,9 @@ pub mod BoundLaws
 pub mod QuietLaws
 pub mod AgreedLaws
 pub mod StepLaws
+pub mod NameLaws
+pub mod SightLaws
+pub mod GroupLaws
+pub mod ShowLaws
+pub mod UserLaws
 pub mod Unique

@@ -1,8 +1,8 @@
 -- What a record is, by what the code has learnt of it. Assumes nothing.
 use Prim.Native.Nat.{ℕ, _+_, _-_, _^_, _≤_, _<_}
-use mathlib.Core.Path.{_≡_, refl, sym, ap, _∙_}
+use mathlib.Core.Path.{_≡_, sym, ap, _∙_}
 use mathlib.Core.Bool.{Bool, true, false}
-use mathlib.Core.List.{List, [], _∷_}
+use mathlib.Core.List.{List}
 use native.Mathlib.Omega.{arith}
 use lib.ListN.{length, drop, length-take}
 use Rattle.keycode.specs.Limits.{maxKey}
@@ -24,7 +24,6 @@ use Rattle.handle.specs.Payloads.{valueIn}
 use Rattle.handle.proofs.PayloadLaws.{skip-within}
 use Rattle.mvcc_scan.specs.declared.rows.Held.{Held}
 use Rattle.mvcc_scan.specs.declared.rows.Held.the-variants.{Hidden, Gone, Bad, Pair}
-use Rattle.mvcc_scan.specs.declared.rows.Row.{Row}
 use Rattle.mvcc_scan.specs.declared.rows.Row.the-variants.{Junk, Good}
 use Rattle.mvcc_scan.specs.Rows.{behindPart, stringPart, heldBy, valueHeld, heldIn, rowKey, rowBy, rowIn}
 

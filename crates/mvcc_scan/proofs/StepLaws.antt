@@ -1,6 +1,6 @@
 -- The scan steps keep their promise. Assumes nothing.
 use Prim.Native.Nat.{ℕ}
-use mathlib.Core.Path.{_≡_, refl, sym, ap, _∙_}
+use mathlib.Core.Path.{_≡_, refl, ap, _∙_}
 use mathlib.Core.Bool.{Bool, true, false, not}
 use mathlib.Core.List.{List}
 use lib.Dec.{eqb}
@@ -27,7 +27,7 @@ use Rattle.txn.specs.Checks.{activeKey, openBy, admitBy}
 use Rattle.txn.proofs.CheckLaws.{open-agrees, open-never, open-ever, behind, behind-bad, behind-never, behind-ever, behind-long}
 use Rattle.mvcc_scan.specs.Walks.{stepIn}
 use Rattle.mvcc_scan.specs.Promises.{checkedStep, keysBy, scanAnswer, Scanning}
-use Rattle.mvcc_scan.proofs.QuietLaws.{step-quiet}
+use Rattle.mvcc_scan.proofs.QuietLaws.{step-answers, answers-quiet}
 
 -- ---- 4 behind the checks of every call
 
@@ -68,15 +68,15 @@ number-behind (Check.Refused r) b x = refl
 
 module _ (h : Handle) (log : List ℕ) (ss : List Slot) where
   late-bad : (b : Bool) → eqb (lateNumber b (stepIn h log ss)) 13 ≡ false
-  late-bad true = step-quiet 13 refl refl refl h log ss
+  late-bad true = answers-quiet 13 refl refl refl (step-answers h log ss)
   late-bad false = refl
 
   late-open : (b : Bool) → eqb (lateNumber b (stepIn h log ss)) 3 ≡ false
-  late-open true = step-quiet 3 refl refl refl h log ss
+  late-open true = answers-quiet 3 refl refl refl (step-answers h log ss)
   late-open false = refl
 
   late-long : (b : Bool) → eqb (lateNumber b (stepIn h log ss)) 4 ≡ not b
-  late-long true = step-quiet 4 refl refl refl h log ss
+  late-long true = answers-quiet 4 refl refl refl (step-answers h log ss)
   late-long false = refl
 
 -- ---- the promise, of a step that reads the slots ss n of the first n

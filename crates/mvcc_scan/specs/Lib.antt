@@ -3,3 +3,4 @@ pub mod Rows
 pub mod Walks
 pub mod Bounds
 pub mod Promises
+pub mod Steps

@@ -1,8 +1,11 @@
 -- Look-ups by what the search found, and under agreement what the map says of the key. Assumes nothing.
-use Prim.Native.Nat.{ℕ}
+use Prim.Native.Nat.{ℕ, zero, suc, _-_}
 use mathlib.Core.Path.{_≡_, refl, sym, ap, _∙_}
 use mathlib.Core.Bool.{true, false}
-use mathlib.Core.List.{List}
+use mathlib.Core.List.{List, [], _∷_}
+use native.Mathlib.Omega.{arith}
+use lib.ListN.{take, drop}
+use lib.Seq.{take-nil}
 use Rattle.keydir.specs.declared.slots.Slot.{Slot}
 use Rattle.keydir.specs.declared.place.Found.{Found}
 use Rattle.keydir.specs.declared.place.Found.the-variants.{At, Before}
@@ -78,3 +81,11 @@ module _ (log : List ℕ) (used : ℕ) (t : List ℕ) (g : Agrees log used t) (k
       go : (f : Found) → placeOf log key (slotsOf (countOf t) t) ≡ f → wants f ≡ newBy (liveOf log key (slotsOf (countOf t) t))
       go (At i) e = rw (← live-at log key t (countOf t) (At i) (sym e) i refl)
       go (Before i) e = rw (← live-before log key t (countOf t) (Before i) (sym e) i refl)
+
+-- ---- a value without its first bytes, as a part of the log
+
+pub drop-take : (k n : ℕ) (xs : List ℕ) → take (n - k) (drop k xs) ≡ drop k (take n xs)
+drop-take zero n xs = let e : n - 0 ≡ n = omega arith in ap (λ (m : ℕ). take m xs) e
+drop-take (suc k) n [] = take-nil (n - suc k) ∙ ap (drop (suc k)) (sym (take-nil n))
+drop-take (suc k) zero (x ∷ xs) = let e : 0 - suc k ≡ 0 = omega arith in ap (λ (m : ℕ). take m (drop k xs)) e
+drop-take (suc k) (suc n) (x ∷ xs) = let e : suc n - suc k ≡ n - k = omega arith in ap (λ (m : ℕ). take m (drop k xs)) e ∙ drop-take k n xs

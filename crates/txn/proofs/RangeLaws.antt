@@ -21,7 +21,7 @@ use Rattle.keycode.proofs.NumberLaws.{Bytes, bytes-take, bytes-drop}
 use Rattle.keycode.proofs.PrefixLaws.{begins-least, begins-under, range-begins}
 use Rattle.keydir.specs.declared.slots.Slot.{Slot}
 use Rattle.keydir.specs.Slots.{freeSlot, slotsOf, keyOf}
-use Rattle.keydir.specs.Place.{orderAt, countOf, Sorted}
+use Rattle.keydir.specs.Place.{orderAt, countOf, All, all-none, all-more, Sorted, sorted-none, sorted-more}
 use Rattle.recovery.specs.Map.{Pair}
 use Rattle.recovery.specs.Recover.{recovered, view, mapOf}
 use Rattle.recovery.specs.Agree.{Agrees}
@@ -188,3 +188,24 @@ module _ (p log : List ℕ) where
   pub span-prefix : {ss : List Slot} {n : ℕ} {r : Span} → Prefixes log ss n p r → slice (r .from) (r .to) ss ≡ prefixIn p log ss
   unfolding prefixIn
   span-prefix w = span-range Included p (endBound (prefixEnd p)) (endBytes p (prefixEnd p)) log w
+
+-- ---- the slots that a test admits rise where all do
+
+module _ (p : List ℕ → Bool) (log : List ℕ) where
+  keep-all : {P : Slot → Type 0} {ss : List Slot} → All P ss → All P (keep p log ss)
+  unfolding keep
+  keep-all all-none = all-none
+  keep-all {P = P} (all-more {x = s} {xs = ss} e a) = go (p (keyOf log s)) (keep-all a)
+    where
+      go : (b : Bool) → All P (keep p log ss) → All P (pick b (s ∷ keep p log ss) (keep p log ss))
+      go true r = all-more e r
+      go false r = r
+
+  pub keep-sorted : {ss : List Slot} → Sorted log ss → Sorted log (keep p log ss)
+  unfolding keep
+  keep-sorted sorted-none = sorted-none
+  keep-sorted (sorted-more {s = s} {ss = ss} a r) = go (p (keyOf log s)) (keep-sorted r)
+    where
+      go : (b : Bool) → Sorted log (keep p log ss) → Sorted log (pick b (s ∷ keep p log ss) (keep p log ss))
+      go true q = sorted-more (keep-all a) q
+      go false q = q

@@ -1,7 +1,6 @@
 -- `from_last`: a last given key is a lower bound that does not admit it.
 use Rattle.keydir.specs.Slots.{slotsOf}
 use Rattle.mvcc_scan.proofs.BoundLaws.{last-fits, last-given, last-none}
-use borrow.Author.Needs.{needs}
 use Rattle.mvcc_scan.proofs.bounds.from_last.Statement.{statement}
 use Rattle.mvcc_scan.proofs.bounds.from_last.Tie as tie
 

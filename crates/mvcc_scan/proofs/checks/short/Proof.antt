@@ -1,7 +1,6 @@
 -- `short`: the test of a key's length.
 use mathlib.Core.Path.{sym}
 use borrow.Author.Tests.{le-leb, lt-leb}
-use borrow.Author.Needs.{needs}
 use Rattle.mvcc_scan.proofs.checks.short.Statement.{statement}
 use Rattle.mvcc_scan.proofs.checks.short.Tie as tie
 
