@@ -13,23 +13,23 @@ use Rattle.keycode.specs.Limits.{maxKey}
 use Rattle.keycode.specs.Number.{num}
 use Rattle.keycode.specs.Order.{compareBytes, andThen}
 use Rattle.keycode.specs.Strings.{escapeBody, escape, unescaped, scanned, fault}
-use Rattle.keycode.specs.Keys.{exactly, stringAt, onEnded, keyOf, decodeWhy, forget}
+use Rattle.keys.specs.Keys.{exactly, stringAt, onEnded, keyOf, decodeWhy, forget}
 use Rattle.keycode.specs.declared.parts.Part.{Part}
 use Rattle.keycode.specs.declared.strings.Reason.the-variants.{TooFew, LeftOver}
 use Rattle.keycode.specs.declared.strings.Scanned.{Scanned}
 use Rattle.keycode.specs.declared.strings.Scanned.the-variants.{Ended, Broken}
-use Rattle.keycode.specs.declared.keys.Key.{Key}
-use Rattle.keycode.specs.declared.keys.Key.the-variants.{NextVersion, TxnActive, TxnActiveSnapshot, TxnWrite, Version, Unversioned}
-use Rattle.keycode.specs.declared.keys.Decoded.{Decoded}
-use Rattle.keycode.specs.declared.keys.Decoded.the-variants.{Whole, Refused}
-use Rattle.keycode.specs.declared.keys.Reading.{Reading}
-use Rattle.keycode.specs.declared.keys.Reading.the-variants.{Read, Faulty}
+use Rattle.keys.specs.declared.keys.Key.{Key}
+use Rattle.keys.specs.declared.keys.Key.the-variants.{NextVersion, TxnActive, TxnActiveSnapshot, TxnWrite, Version, Unversioned}
+use Rattle.keys.specs.declared.keys.Decoded.{Decoded}
+use Rattle.keys.specs.declared.keys.Decoded.the-variants.{Whole, Refused}
+use Rattle.keys.specs.declared.keys.Reading.{Reading}
+use Rattle.keys.specs.declared.keys.Reading.the-variants.{Read, Faulty}
 use Rattle.keycode.specs.declared.order.Order.{Order}
 use Rattle.keycode.specs.declared.order.Order.the-variants.{Less, Greater}
 use Rattle.keycode.proofs.Basics.{nope}
 use Rattle.keycode.proofs.OrderLaws.{same-head}
 use Rattle.keycode.proofs.StringLaws.{Found, scan-found, unescaped-body}
-use Rattle.keycode.proofs.KeyOrder.{string-sorts}
+use Rattle.keys.proofs.KeyOrder.{string-sorts}
 use Rattle.mvcc_scan.specs.Steps.{Stamp, stampBy, stampOf}
 
 -- ---- decoding, taken back

@@ -10,11 +10,11 @@ use lib.Seq.{take-take, drop-drop}
 use Rattle.keycode.specs.Tests.{pick}
 use Rattle.keycode.specs.Limits.{maxKey}
 use Rattle.keycode.specs.Strings.{escapeBody, escape, unescaped}
-use Rattle.keycode.specs.Keys.{decodeWhy, forget}
+use Rattle.keys.specs.Keys.{decodeWhy, forget}
 use Rattle.keycode.specs.declared.parts.Part.{Part}
-use Rattle.keycode.specs.declared.keys.Key.the-variants.{NextVersion, TxnActive, TxnActiveSnapshot, TxnWrite, Version, Unversioned}
-use Rattle.keycode.specs.declared.keys.Decoded.{Decoded}
-use Rattle.keycode.specs.declared.keys.Decoded.the-variants.{Whole, Refused}
+use Rattle.keys.specs.declared.keys.Key.the-variants.{NextVersion, TxnActive, TxnActiveSnapshot, TxnWrite, Version, Unversioned}
+use Rattle.keys.specs.declared.keys.Decoded.{Decoded}
+use Rattle.keys.specs.declared.keys.Decoded.the-variants.{Whole, Refused}
 use Rattle.keycode.proofs.StringLaws.{escape-length}
 use Rattle.keydir.specs.declared.slots.Slot.{Slot}
 use Rattle.keydir.specs.Slots.{keyOf, valueOf}

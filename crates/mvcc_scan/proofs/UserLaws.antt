@@ -7,14 +7,14 @@ use mathlib.Core.List.{List, [], _∷_}
 use native.Mathlib.Omega.{arith}
 use Rattle.keycode.specs.Tests.{pick}
 use Rattle.keycode.specs.Order.{compareNat, compareBytes, andThen}
-use Rattle.keycode.specs.Keys.{encode, version}
+use Rattle.keys.specs.Keys.{encode, version}
 use Rattle.keycode.specs.Prefix.{searched}
 use Rattle.keycode.specs.declared.order.Order.{Order}
 use Rattle.keycode.specs.declared.order.Order.the-variants.{Less, Equal, Greater}
 use Rattle.keycode.proofs.Basics.{Ordered, below, same, above, ordered}
 use Rattle.keycode.proofs.OrderLaws.{nat-less, nat-equal, nat-greater}
-use Rattle.keycode.proofs.KeyOrder.{order-version}
-use Rattle.keycode.proofs.PrefixLaws.{searched-begins, searched-only}
+use Rattle.keys.proofs.KeyOrder.{order-version}
+use Rattle.keys.proofs.PrefixKeys.{searched-begins, searched-only}
 use Rattle.bitcask.specs.declared.answers.Bound.{Bound}
 use Rattle.bitcask.specs.declared.answers.Bound.the-variants.{Included, Excluded, Unbounded}
 use Rattle.bitcask.specs.Ranks.{admitsLow, admitsHigh, lastBound, admitted}
