@@ -4,3 +4,4 @@ pub mod ActiveLaws
 pub mod RangeLaws
 pub mod SeenLaws
 pub mod SearchLaws
+pub mod ReadLaws
