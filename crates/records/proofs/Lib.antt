@@ -1,1 +1,7 @@
 -- The laws of the store's records as pairs of bytes: what the calls' definitions say of a map of them.
+pub mod SightLaws
+pub mod ActiveLaws
+pub mod RangeLaws
+pub mod SeenLaws
+pub mod SearchLaws
+pub mod ReadLaws
