@@ -54,25 +54,26 @@ pub record Kept (w : World) (T : Calls) (m : Map) : Type 0 where
 abbrev pub Ready : World → Type 0
 Ready w = Agrees (w .log) (w .used) (w .table)
 
--- ---- calls that give no handle
+-- ---- the handles given after one call more: by it, or before
 
-module _ {c : Call} {T : Calls} {h : Handle} (b : (r : Begun) → begins r ≡ c → Gave r h → ⊥) (r : (x : Begun) → beginsReading x ≡ c → Gave x h → ⊥) (a : (v : ℕ) (x : Begun) → beginsAsOf v x ≡ c → Gave x h → ⊥) where
-  pub given-past : Given h (c ∷ T) → Given h T
-  given-past (by-begin {r = x} {T₁ = T₁} f g) = go (after-cons f)
+module _ {c : Call} {T : Calls} {h : Handle} {P : Type 0} (b : (r : Begun) → begins r ≡ c → Gave r h → P) (r : (x : Begun) → beginsReading x ≡ c → Gave x h → P)
+    (a : (v : ℕ) (x : Begun) → beginsAsOf v x ≡ c → Gave x h → P) (old : Given h T → P) where
+  pub given-cases : Given h (c ∷ T) → P
+  given-cases (by-begin {r = x} {T₁ = T₁} f g) = go (after-cons f)
     where
-      go : ((begins x ≡ c) × (T₁ ≡ T)) ⊎ After (begins x ∷ T₁) T → Given h T
-      go (inl (e, q)) = absurd (b x e g)
-      go (inr f) = by-begin f g
-  given-past (by-reading {r = x} {T₁ = T₁} f g) = go (after-cons f)
+      go : ((begins x ≡ c) × (T₁ ≡ T)) ⊎ After (begins x ∷ T₁) T → P
+      go (inl (e, q)) = b x e g
+      go (inr f) = old (by-begin f g)
+  given-cases (by-reading {r = x} {T₁ = T₁} f g) = go (after-cons f)
     where
-      go : ((beginsReading x ≡ c) × (T₁ ≡ T)) ⊎ After (beginsReading x ∷ T₁) T → Given h T
-      go (inl (e, q)) = absurd (r x e g)
-      go (inr f) = by-reading f g
-  given-past (by-asOf {v = v} {r = x} {T₁ = T₁} f g) = go (after-cons f)
+      go : ((beginsReading x ≡ c) × (T₁ ≡ T)) ⊎ After (beginsReading x ∷ T₁) T → P
+      go (inl (e, q)) = r x e g
+      go (inr f) = old (by-reading f g)
+  given-cases (by-asOf {v = v} {r = x} {T₁ = T₁} f g) = go (after-cons f)
     where
-      go : ((beginsAsOf v x ≡ c) × (T₁ ≡ T)) ⊎ After (beginsAsOf v x ∷ T₁) T → Given h T
-      go (inl (e, q)) = absurd (a v x e g)
-      go (inr f) = by-asOf f g
+      go : ((beginsAsOf v x ≡ c) × (T₁ ≡ T)) ⊎ After (beginsAsOf v x ∷ T₁) T → P
+      go (inl (e, q)) = a v x e g
+      go (inr f) = old (by-asOf f g)
 
 -- ---- a call that the history does not count
 
