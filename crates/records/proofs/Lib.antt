@@ -1,1 +1,6 @@
 -- The laws of the store's records as pairs of bytes: what the calls' definitions say of a map of them.
+pub mod OrderLaws
+pub mod PairLaws
+pub mod PlanLaws
+pub mod EndLaws
+pub mod FineLaws
