@@ -12,7 +12,7 @@ use Rattle.keydir.specs.Place.{All, all-none, all-more}
 use Rattle.handle.specs.Handles.{rising}
 use Rattle.handle.specs.Payloads.{Versions}
 use Rattle.history.specs.History.{Key, Bytes}
-use Rattle.history.specs.Records.{Rec, nextRec, activeRec, snapRec, wroteRec, verRec, plainRec, keyOf, Map, look, without, isYes, fields≟, delAll, place, put}
+use Rattle.history.specs.Records.{Rec, nextRec, activeRec, snapRec, wroteRec, verRec, plainRec, keyOf, Map, look, without, delAll, place, put}
 use Rattle.history.specs.Calls.{nextOf, actives, putSnap, beginMap, writeMap, writtenBy, commitKeys, undoKeys, commitMap, rollbackMap}
 use Rattle.records.specs.Stored.{keyOrder, Fine}
 use Rattle.records.proofs.PairLaws.{isKey}

@@ -3,7 +3,7 @@
 use Prim.Native.Nat.{ℕ, _<_, Ordering·lt, Ordering·eq, Ordering·gt}
 use mathlib.Core.Path.{_≡_, refl, sym, ap, _∙_}
 use mathlib.Core.Logic.{_≢_}
-use mathlib.Core.List.{List, [], _++_, append-nil}
+use mathlib.Core.List.{[], _++_, append-nil}
 use Rattle.keycode.specs.Number.{be}
 use Rattle.keycode.specs.Strings.{escape}
 use Rattle.keycode.specs.Order.{compareNat, compareBytes, andThen}

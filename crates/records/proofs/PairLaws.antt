@@ -1,7 +1,7 @@
 -- Put, delete and look up: what they do to a map's pairs of bytes is what they do to its records. Assumes nothing.
 use Prim.Native.Nat.{ℕ, Ordering·lt}
 use mathlib.Core.Path.{_≡_, refl, sym, ap, _∙_, subst}
-use mathlib.Core.Bool.{Bool, true, false}
+use mathlib.Core.Bool.{Bool, true}
 use mathlib.Core.Logic.{_≢_}
 use mathlib.Core.Option.{Option, none, some}
 use mathlib.Core.List.{List, [], _∷_}
