@@ -4,3 +4,9 @@ pub mod PairLaws
 pub mod PlanLaws
 pub mod EndLaws
 pub mod FineLaws
+pub mod SightLaws
+pub mod ActiveLaws
+pub mod RangeLaws
+pub mod SeenLaws
+pub mod SearchLaws
+pub mod ReadLaws
