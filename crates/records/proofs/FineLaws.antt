@@ -12,10 +12,11 @@ use Rattle.keydir.specs.Place.{All, all-none, all-more}
 use Rattle.handle.specs.Handles.{rising}
 use Rattle.handle.specs.Payloads.{Versions}
 use Rattle.history.specs.History.{Key, Bytes}
-use Rattle.history.specs.Records.{Rec, nextRec, activeRec, snapRec, wroteRec, verRec, plainRec, keyOf, Map, look, without, delAll, place, put}
+use Rattle.history.specs.Records.{Rec, nextRec, activeRec, snapRec, wroteRec, verRec, plainRec, keyOf, Map, look, without, delAll, place, put, Sorted}
 use Rattle.history.specs.Calls.{nextOf, actives, putSnap, beginMap, writeMap, writtenBy, commitKeys, undoKeys, commitMap, rollbackMap}
 use Rattle.records.specs.Stored.{keyOrder, Fine}
 use Rattle.records.proofs.PairLaws.{isKey}
+use Rattle.records.proofs.ActiveLaws.{actives-fit, actives-rise}
 
 -- ---- put and delete
 
@@ -49,11 +50,13 @@ fine-snap : (v : ℕ) (vs : List ℕ) {m : Map} → v < 2 ^ 64 → length vs ≤
 fine-snap v [] h l r w a = a
 fine-snap v (x ∷ xs) h l r w a = fine-put (snapRec v (x ∷ xs)) (h, l, r, w) a
 
-pub fine-begin : {m : Map} → All Fine m → nextOf (look m nextVersion) + 1 < 2 ^ 64 → length (actives m) ≤ maxOpen → rising (actives m) ≡ true → Versions (actives m) → All Fine (beginMap keyOrder m)
+-- the versions open rise and are versions, as the records stand in order
+pub fine-begin : {m : Map} → Sorted keyOrder m → All Fine m → nextOf (look m nextVersion) + 1 < 2 ^ 64 → length (actives m) ≤ maxOpen → All Fine (beginMap keyOrder m)
 unfolding beginMap
-fine-begin {m} a h l r w =
+fine-begin {m} s a h l =
     let v = nextOf (look m nextVersion) in
-    fine-put (activeRec v) (omega arith) (fine-snap v (actives m) (omega arith) l r w (fine-put (nextRec (suc v)) (omega arith, omega arith) a))
+    fine-put (activeRec v) (omega arith)
+    (fine-snap v (actives m) (omega arith) l (actives-rise s a) (actives-fit a) (fine-put (nextRec (suc v)) (omega arith, omega arith) a))
 
 pub fine-write : (v : ℕ) (k : Key) (o : Option Bytes) {m : Map} → v < 2 ^ 64 → length k ≤ maxKey → All Fine m → All Fine (writeMap keyOrder v k o m)
 unfolding writeMap
