@@ -6,7 +6,7 @@ use mathlib.Core.Bool.{Bool, true, false}
 use mathlib.Core.Logic.{_≢_, inr}
 use mathlib.Core.Option.{Option, none, some}
 use mathlib.Core.List.{List, [], _∷_}
-use Rattle.history.specs.History.{Key, Bytes}
+use Rattle.history.specs.History.{isOpen, Key, Bytes}
 use Rattle.history.specs.History.{Sight, began, noted, History, unborn, opened, done, status, lastWrite, past, begins, laid, over, isIn, Good, good-nil, good-cons, g-wrote, g-committed, g-undone, g-noted, After, now, later, Clash, keep, stored, Top, nowhere, below, upTo, lowest, from, Peak}
 use mathlib.Core.Bool.{not, _&&_}
 use lib.Dec.{leb, ltb}
@@ -320,6 +320,10 @@ module _ {cmp : Fields → Fields → Ordering} (L : Order cmp) where
 
   pub scan-reader : {m : Map} {T T1 : Trace} → Run cmp m T → (h : Sight) → After (readE h ∷ T1) T → (p : Key → Bool) → Step cmp (laid (events T1)) p (scanStep m h p)
   scan-reader r h a p = step-congr (λ k. get-reader r h a k) (scan-step L ((run-state r) .sorted) h p)
+
+  -- the store says that a version is open just where the history says so
+  pub run-open : {m : Map} {T : Trace} → Run cmp m T → (v : ℕ) → isSome (look m (txnActive v)) ≡ isOpen (status (events T) v)
+  run-open r v = run-state r .rep .act v
 
   pub run-sorted : {m : Map} {T : Trace} → Run cmp m T → Sorted cmp m
   run-sorted r = (run-state r) .sorted

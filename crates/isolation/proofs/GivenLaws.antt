@@ -42,11 +42,21 @@ begun-entry r {h} (z, e) f = let d = done-is (r .answer) z in rw (d .1) (ap f e)
 
 -- ---- as the history counts it
 
+module _ {T T₁ : Calls} {h : Handle} (r : Begun) (g : Gave r h) where
+  at-entry : (e : Call) (f : Handle → Entry) → entryOf e ≡ onDone (r .answer) (f (r .handle)) otherE → After (e ∷ T₁) T → After (f h ∷ traceOf T₁) (traceOf T)
+  unfolding traceOf
+  at-entry e f q a = subst (λ (x : Entry). After (x ∷ traceOf T₁) (traceOf T)) (q ∙ begun-entry r g f) (after-trace a)
+
+  pub began-trace : After (begins r ∷ T₁) T → After (beginE (sightOf h) ∷ traceOf T₁) (traceOf T)
+  began-trace a = at-entry (begins r) (λ (x : Handle). beginE (sightOf x)) refl a
+
+  pub read-trace : After (beginsReading r ∷ T₁) T → After (readE (sightOf h) ∷ traceOf T₁) (traceOf T)
+  read-trace a = at-entry (beginsReading r) (λ (x : Handle). readE (sightOf x)) refl a
+
+  pub as-of-trace : (v : ℕ) → After (beginsAsOf v r ∷ T₁) T → After (asOfE v (sightOf h) ∷ traceOf T₁) (traceOf T)
+  as-of-trace v a = at-entry (beginsAsOf v r) (λ (x : Handle). asOfE v (sightOf x)) refl a
+
 pub given-trace : {h : Handle} {T : Calls} → Given h T → (T₁ : Trace) × H.Gave (sightOf h) T₁ (traceOf T)
-unfolding traceOf
-given-trace {h} {T} (by-begin {r = r} {T₁ = T₁} a g) =
-    (traceOf T₁, H.by-begin (subst (λ (e : Entry). After (e ∷ traceOf T₁) (traceOf T)) (begun-entry r g (λ (x : Handle). beginE (sightOf x))) (after-trace a)))
-given-trace {h} {T} (by-reading {r = r} {T₁ = T₁} a g) =
-    (traceOf T₁, H.by-read (subst (λ (e : Entry). After (e ∷ traceOf T₁) (traceOf T)) (begun-entry r g (λ (x : Handle). readE (sightOf x))) (after-trace a)))
-given-trace {h} {T} (by-asOf {v = v} {r = r} {T₁ = T₁} a g) =
-    (traceOf T₁, H.by-asOf v (subst (λ (e : Entry). After (e ∷ traceOf T₁) (traceOf T)) (begun-entry r g (λ (x : Handle). asOfE v (sightOf x))) (after-trace a)))
+given-trace (by-begin {r = r} {T₁ = T₁} a g) = (traceOf T₁, H.by-begin (began-trace r g a))
+given-trace (by-reading {r = r} {T₁ = T₁} a g) = (traceOf T₁, H.by-read (read-trace r g a))
+given-trace (by-asOf {v = v} {r = r} {T₁ = T₁} a g) = (traceOf T₁, H.by-asOf v (as-of-trace r g v a))

@@ -93,6 +93,23 @@ kept-at e k = record { map = e ∙ k .map; fine = k .fine; run = k .run; handles
 pub refused-same : {A : Type 0} (x : Refusal) (a b : A) {l : A} → l ≡ ifDone (numberOf x) a b → l ≡ b
 refused-same x a b e = e ∙ sym (refused-stays x a b)
 
+pub agrees-at : {l l′ t t′ : List ℕ} {u : ℕ} → l ≡ l′ → t ≡ t′ → Agrees l′ u t′ → Agrees l u t
+agrees-at p q a = rw (p, q) a
+
+-- the world is as it was
+pub kept-refused : {w : World} {T : Calls} {m : Map} {c : Call} {log t : List ℕ} → Kept w T m → Ready w → log ≡ w .log → t ≡ w .table → entryOf c ≡ otherE
+    → ((h : Handle) → Given h (c ∷ T) → Given h T) → Kept (record { log = log; used = w .used; table = t }) (c ∷ T) m × Agrees log (w .used) t
+unfolding traceOf
+kept-refused {w} {T} k a p q e past = (
+  record {
+    map = ap (λ (l : List ℕ). mapOf l (w .used)) p ∙ k .map;
+    fine = k .fine;
+    run = run-other e (k .run);
+    handles = λ h g. k .handles h (past h g);
+  },
+  agrees-at p q a,
+)
+
 -- ---- compactions
 
 abbrev lenOf : Changed → ℕ

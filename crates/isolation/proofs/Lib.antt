@@ -3,3 +3,8 @@ pub mod GivenLaws
 pub mod EndedLaws
 pub mod KeptLaws
 pub mod BegunLaws
+pub mod BeganLaws
+pub mod WroteLaws
+pub mod PlainLaws
+pub mod HoldLaws
+pub mod ShownLaws

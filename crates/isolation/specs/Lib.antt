@@ -1,2 +1,3 @@
--- Runs of the store by what its public calls state.
+-- Runs of the store by what its public calls state, and what handles are to see.
 pub mod World
+pub mod Views

@@ -1,0 +1,122 @@
+-- Theorem: what a get shows. Assumes nothing.
+use Prim.Native.Nat.{ℕ, _^_, _<_, _≤_}
+use mathlib.Core.Path.{_≡_, refl, sym, ap, _∙_, subst}
+use mathlib.Core.Bool.{Bool, true, false, _||_}
+use mathlib.Core.Option.{Option, none, some}
+use mathlib.Core.Logic.{_⊎_, inl, inr}
+use mathlib.Core.List.{List, _∷_}
+use lib.Dec.{leb}
+use lib.ListN.{length, take, drop}
+use borrow.Author.Tests.{le-leb}
+use Rattle.keycode.specs.Tests.{pick}
+use Rattle.keycode.specs.Limits.{maxKey}
+use Rattle.keycode.specs.declared.refusal.Refusal.the-variants.{Absent, KeyTooLong, BadStore}
+use Rattle.keycode.specs.declared.parts.Part.{Part}
+use Rattle.keycode.proofs.Basics.{nope}
+use Rattle.keys.specs.Keys.{txnActive}
+use Rattle.recovery.specs.Map.{Pair}
+use Rattle.recovery.specs.Recover.{recovered, mapOf}
+use Rattle.recovery.specs.Agree.{fit}
+use Rattle.bitcask.specs.declared.answers.Located.{Located}
+use Rattle.bitcask.specs.declared.answers.Located.the-variants as Got
+use Rattle.handle.specs.declared.handle.Handle.{Handle}
+use Rattle.handle.specs.Handles.{soundHandle}
+use Rattle.txn.specs.Ranges.{keep, pairsOf}
+use Rattle.txn.specs.Looks.{liveIn}
+use Rattle.txn.specs.Checks.{activeKey, ownVersion, openBy, admitBy, openIn}
+use Rattle.mvcc_read.specs.declared.seen.Seen.{Seen}
+use Rattle.mvcc_read.specs.declared.seen.Seen.the-variants.{Hidden, Gone, Bad, Value}
+use Rattle.mvcc_read.specs.Seen.{lastSeen, locatedSeen, versionTest, valueFor}
+use Rattle.mvcc_read.specs.Promises.{checked, getAnswer, Gets}
+use Rattle.mvcc_read.proofs.ShowLaws.{get-shows, get-none, get-broken}
+use Rattle.history.specs.History.{Key, Bytes, opened, isOpen, status}
+use Rattle.history.specs.Store.{isSome}
+use Rattle.history.specs.Records.{Map, look, Sorted}
+use Rattle.history.specs.Calls.{shown}
+use Rattle.history.specs.Run.{usable}
+use Rattle.history.proofs.RunLaws.{run-sorted, run-open, get-writer, get-reader, get-asOf, get-asOf-0}
+use Rattle.records.specs.Stored.{keyOrder, sightOf}
+use Rattle.records.proofs.OrderLaws.{order}
+use Rattle.records.proofs.ReadLaws.{open-pairs}
+use Rattle.records.proofs.SeenLaws.{value-pairs}
+use Rattle.isolation.specs.World.{World, Calls, Given, by-begin, by-reading, by-asOf, traceOf, meaning}
+use Rattle.isolation.specs.Views.{Usable, Sees, writer, reader, asOf, asOfNone, Shows}
+use Rattle.isolation.proofs.GivenLaws.{began-trace, read-trace, as-of-trace}
+use Rattle.isolation.proofs.KeptLaws.{Sound, Kept, Ready}
+use Rattle.isolation.proofs.WroteLaws.{own-version}
+
+pub sees-given : {T : Calls} {h : Handle} {f : Key → Option Bytes} → Sees T h f → Given h T
+sees-given (writer a g e) = by-begin a g
+sees-given (reader a g e) = by-reading a g
+sees-given (asOf a g n e) = by-asOf a g
+sees-given (asOfNone a g e) = by-asOf a g
+
+module _ {w : World} {T : Calls} {m : Map} (k : Kept w T m) where
+  sorted : Sorted keyOrder m
+  sorted = run-sorted order (k .run)
+
+  pub usable-in : (h : Handle) → Usable T h → usable m (sightOf h) ≡ true
+  usable-in h (inl r) = rw r
+  usable-in h (inr o) = or-true (h .«read_only») (run-open order (k .run) (h .version) ∙ ap isOpen o)
+    where
+      or-true : (b : Bool) {c : Bool} → c ≡ true → (b || c) ≡ true
+      or-true true e = refl
+      or-true false e = e
+
+  -- what the records show is what the handle is to see
+  pub sees-shown : {h : Handle} {f : Key → Option Bytes} → Sees T h f → Usable T h → (key : Key) → shown m (sightOf h) key ≡ f key
+  sees-shown {h} (writer {r = r} a g e) u key = get-writer order (k .run) (sightOf h) (began-trace r g a) (usable-in h u) key ∙ sym (e key)
+  sees-shown {h} (reader {r = r} a g e) u key = get-reader order (k .run) (sightOf h) (read-trace r g a) key ∙ sym (e key)
+  sees-shown {h} (asOf {v = v} {r = r} a g n e) u key = get-asOf order (k .run) (sightOf h) v (as-of-trace r g v a) n key ∙ sym (e key)
+  sees-shown {h} (asOfNone {r = r} a g e) u key = get-asOf-0 order (k .run) (sightOf h) (as-of-trace r g 0 a) key ∙ sym (e key)
+
+  -- the store's own test of a usable handle
+  pub open-in : {h : Handle} → Sound h → Usable T h → openIn (w .log) (w .used) h ≡ true
+  unfolding openBy
+  open-in {h} s (inl r) = rw r
+  open-in {h} s (inr o) = go (h .«read_only») refl
+    where
+      go : (i : Bool) → h .«read_only» ≡ i → pick (h .«read_only») true (pick (ownVersion (h .version)) (liveIn (activeKey h) (mapOf (w .log) (w .used))) false) ≡ true
+      go true e = rw e
+      go false e = let v = s .own e in rw (e, own-version (h .version) (v .0) (v .1), k .map) (open-pairs h sorted ∙ run-open order (k .run) (h .version) ∙ ap isOpen o)
+
+-- ---- get
+
+passed-by : (f g o b : Bool) (s : Seen) (r : Located) → r ≡ checked (admitBy f g o) (pick b (locatedSeen s) (Got.Refused KeyTooLong)) → f ≡ true → g ≡ true → o ≡ true → b ≡ true → r ≡ locatedSeen s
+unfolding admitBy
+passed-by f g o b s r e p q i j = e ∙ rw (p, q, i, j)
+
+module _ {w : World} {T : Calls} {m : Map} (k : Kept w T m) (a : Ready w) {h : Handle} {f : Key → Option Bytes} (s : Sees T h f) (u : Usable T h) {key : Key} (l : length key ≤ maxKey) {r : Located}
+    (b : Gets (w .log) (w .used) (w .table) h key r) where
+  sound : Sound h
+  sound = k .handles h (sees-given s)
+
+  value-is : valueFor h (pairsOf (versionTest key (h .version)) (mapOf (w .log) (w .used))) ≡ some (f key)
+  value-is = ap (λ (x : List Pair). valueFor h (pairsOf (versionTest key (h .version)) x)) (k .map) ∙ value-pairs h key (sound .fits) (k .fine) ∙ ap some (sees-shown k s u key)
+
+  abbrev seen : Seen
+  seen = lastSeen h (w .log) (keep (versionTest key (h .version)) (w .log) (recovered (w .log) (w .used)))
+
+  located : r ≡ locatedSeen seen
+  unfolding getAnswer
+  located =
+      passed-by (fit (length (w .log)) (w .used) (length (w .table))) (soundHandle h) (openIn (w .log) (w .used) h) (leb (length key) maxKey) seen r (b .answer a) (a .sound) (sound .sound)
+      (open-in k sound u) (le-leb (length key) maxKey l)
+
+  some-is : {x y : Option Bytes} → some x ≡ some y → x ≡ y
+  some-is e = cc
+
+  pub got-shows : Shows (w .log) r (f key)
+  got-shows = go seen located
+    where
+      at : (p : Part) → r ≡ Got.At p → Shows (w .log) r (f key)
+      at p e = subst (Shows (w .log) r) (some-is (sym (get-shows a b p e) ∙ value-is)) (p, e, refl)
+
+      absent : r ≡ Got.Refused Absent → Shows (w .log) r (f key)
+      absent e = subst (Shows (w .log) r) (some-is (sym (get-none a b e) ∙ value-is)) e
+
+      go : (x : Seen) → r ≡ locatedSeen x → Shows (w .log) r (f key)
+      go Hidden e = absent e
+      go Gone e = absent e
+      go Bad e = nope (cc (sym (get-broken a b e) ∙ value-is))
+      go (Value p) e = at p e

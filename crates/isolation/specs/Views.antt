@@ -1,0 +1,36 @@
+-- What a handle is to see, from the calls made and the numbers answered alone, and what it is that an answer shows it. Document 01,
+-- 'Demands', the third. Assumes nothing.
+use Prim.Native.Nat.{ℕ}
+use mathlib.Core.Path.{_≡_}
+use mathlib.Core.Bool.{true}
+use mathlib.Core.Option.{Option, none, some}
+use mathlib.Core.Logic.{_≢_, _⊎_}
+use mathlib.Core.List.{List, _∷_}
+use lib.ListN.{take, drop}
+use Rattle.keycode.specs.declared.refusal.Refusal.the-variants.{Absent}
+use Rattle.keycode.specs.declared.parts.Part.{Part}
+use Rattle.bitcask.specs.declared.answers.Located.{Located}
+use Rattle.bitcask.specs.declared.answers.Located.the-variants as Got
+use Rattle.handle.specs.declared.handle.Handle.{Handle}
+use Rattle.txn.specs.declared.begun.Begun.{Begun}
+use Rattle.history.specs.History.{Key, Bytes, After, opened, status, lastWrite, over, laid, past}
+use Rattle.isolation.specs.World.{begins, beginsReading, beginsAsOf, Calls, Gave, meaning}
+
+-- the handle may be used after the calls T: it is read-only, or its transaction is open
+abbrev pub Usable : Calls → Handle → Type 0
+Usable T h = (h .«read_only» ≡ true) ⊎ (status (meaning T) (h .version) ≡ opened)
+
+-- f is what the handle is to see after the calls T, T₁ being the calls before it was given
+pub data Sees (T : Calls) (h : Handle) (f : Key → Option Bytes) : Type 0 where
+  -- a transaction: its own last accepted write, else what those committed before it began leave when laid down whole in commit order
+  writer : {r : Begun} {T₁ : Calls} → After (begins r ∷ T₁) T → Gave r h → ((k : Key) → f k ≡ over (lastWrite (meaning T) (h .version) k) (laid (meaning T₁) k)) → Sees T h f
+  -- a read-only transaction: the latter
+  reader : {r : Begun} {T₁ : Calls} → After (beginsReading r ∷ T₁) T → Gave r h → ((k : Key) → f k ≡ laid (meaning T₁) k) → Sees T h f
+  -- as-of v: what had committed before v began; of 0 nothing
+  asOf : {v : ℕ} {r : Begun} {T₁ : Calls} → After (beginsAsOf v r ∷ T₁) T → Gave r h → v ≢ 0 → ((k : Key) → f k ≡ laid (past (meaning T₁) v) k) → Sees T h f
+  asOfNone : {r : Begun} {T₁ : Calls} → After (beginsAsOf 0 r ∷ T₁) T → Gave r h → ((k : Key) → f k ≡ none) → Sees T h f
+
+-- an answer shows a value: 0 with the place where its bytes stand in the log; 1 where there is none
+abbrev pub Shows : List ℕ → Located → Option Bytes → Type 0
+Shows log r none = r ≡ Got.Refused Absent
+Shows log r (some v) = (p : Part) × (r ≡ Got.At p) × (take (p .len) (drop (p .at) log) ≡ v)
