@@ -4,7 +4,6 @@ use mathlib.Core.Path.{_≡_, refl, ap, _∙_}
 use mathlib.Core.Bool.{true}
 use mathlib.Core.Logic.{ite}
 use mathlib.Core.Option.{Option, none, some}
-use mathlib.Core.List.{List}
 use native.Mathlib.Omega.{arith}
 use lib.ListN.{length}
 use borrow.Author.Tests.{ne-eqb, le-leb}
@@ -23,10 +22,11 @@ use Rattle.txn.specs.Looks.{liveIn}
 use Rattle.txn.specs.Checks.{activeKey}
 use Rattle.mvcc_begin.specs.Active.{nextOf as nextIn, nextAt}
 use Rattle.mvcc_begin.specs.Begins.{snapshotRead}
-use Rattle.history.specs.Records.{fields≟, Rec, nextRec, activeRec, snapRec, wroteRec, verRec, plainRec, keyOf, Map, look}
+use Rattle.history.specs.Records.{fields≟, Rec, nextRec, activeRec, snapRec, wroteRec, verRec, plainRec, keyOf, Map, look, Sorted}
 use Rattle.history.specs.Store.{isSome}
 use Rattle.history.specs.Calls.{nextOf, setOf}
-use Rattle.records.specs.Stored.{payloadOf, pairsIn, Fine}
+use Rattle.records.specs.Stored.{payloadOf, pairsIn, keyOrder, Fine}
+use Rattle.records.proofs.PairLaws.{payloadIn, look-pairs, live-pairs}
 
 -- what is found has the key, and is within the limits
 pub look-says : {m : Map} → All Fine m → (K : Fields) (r : Rec) → look m K ≡ some r → (keyOf r ≡ K) × Fine r
@@ -38,46 +38,39 @@ look-says (all-more {x = s} {xs = m} f a) K r e = go (fields≟ (keyOf s) K) e (
     go (yes p) q rec = let z : s ≡ r = cc in rw (← z) (p, f)
     go (no n) q rec = rec q
 
-abbrev pub valueIn : Option Rec → Option (List ℕ)
-valueIn none = none
-valueIn (some r) = some (payloadOf r)
-
-module _ {m : Map} (a : All Fine m) (look-pairs : (K : Fields) → lookIn (encode K) (pairsIn m) ≡ valueIn (look m K)) where
+module _ {m : Map} (s : Sorted keyOrder m) (a : All Fine m) where
   pub next-pairs : nextAt (pairsIn m) ≡ Read (nextOf (look m nextVersion))
   unfolding nextAt nextIn payloadOf
-  next-pairs = ap nextIn (look-pairs nextVersion) ∙ go (look m nextVersion) (look-says a nextVersion)
+  next-pairs = ap nextIn (look-pairs nextVersion s) ∙ go (look m nextVersion) (look-says a nextVersion)
     where
-      go : (z : Option Rec) → ((r : Rec) → z ≡ some r → (keyOf r ≡ nextVersion) × Fine r) → nextIn (valueIn z) ≡ Read (nextOf z)
+      go : (z : Option Rec) → ((r : Rec) → z ≡ some r → (keyOf r ≡ nextVersion) × Fine r) → nextIn (payloadIn z) ≡ Read (nextOf z)
       go none w = refl
       go (some (nextRec n)) w =
           let f : Fine (nextRec n) = w (nextRec n) refl .1 in
           let p : n ≡ 0 → ⊥ = λ e. omega (arith, f .0) in
           rw (first-reads .version n (f .1), ne-eqb n 0 p)
       go (some (activeRec v)) w = nope (cc (w (activeRec v) refl .0))
-      go (some (snapRec v s)) w = nope (cc (w (snapRec v s) refl .0))
+      go (some (snapRec v z)) w = nope (cc (w (snapRec v z) refl .0))
       go (some (wroteRec v k)) w = nope (cc (w (wroteRec v k) refl .0))
       go (some (verRec k v o)) w = nope (cc (w (verRec k v o) refl .0))
       go (some (plainRec k b)) w = nope (cc (w (plainRec k b) refl .0))
 
-  pub snapshot-pairs : (v : ℕ) → snapshotRead v (lookIn (encode (txnActiveSnapshot v)) (pairsIn m)) ≡ record { answer = SetAnswers.Fine; handle = handleOf v true (setOf (look m (txnActiveSnapshot v))) }
+  pub snapshot-pairs : (v : ℕ)
+      → snapshotRead v (lookIn (encode (txnActiveSnapshot v)) (pairsIn m)) ≡ record { answer = SetAnswers.Fine; handle = handleOf v true (setOf (look m (txnActiveSnapshot v))) }
   unfolding snapshotRead setFor payloadOf handleOf
-  snapshot-pairs v = ap (snapshotRead v) (look-pairs (txnActiveSnapshot v)) ∙ go (look m (txnActiveSnapshot v)) (look-says a (txnActiveSnapshot v))
+  snapshot-pairs v = ap (snapshotRead v) (look-pairs (txnActiveSnapshot v) s) ∙ go (look m (txnActiveSnapshot v)) (look-says a (txnActiveSnapshot v))
     where
-      go : (z : Option Rec) → ((r : Rec) → z ≡ some r → (keyOf r ≡ txnActiveSnapshot v) × Fine r) → snapshotRead v (valueIn z) ≡ record { answer = SetAnswers.Fine; handle = handleOf v true (setOf z) }
+      go : (z : Option Rec) → ((r : Rec) → z ≡ some r → (keyOf r ≡ txnActiveSnapshot v) × Fine r)
+          → snapshotRead v (payloadIn z) ≡ record { answer = SetAnswers.Fine; handle = handleOf v true (setOf z) }
       go none w = refl
       go (some (nextRec n)) w = nope (cc (w (nextRec n) refl .0))
       go (some (activeRec u)) w = nope (cc (w (activeRec u) refl .0))
-      go (some (snapRec u s)) w =
-          let f : Fine (snapRec u s) = w (snapRec u s) refl .1 in
-          rw (first-reads .set s (f .3), le-leb (length s) maxOpen (f .1), f .2)
+      go (some (snapRec u z)) w =
+          let f : Fine (snapRec u z) = w (snapRec u z) refl .1 in
+          rw (first-reads .set z (f .3), le-leb (length z) maxOpen (f .1), f .2)
       go (some (wroteRec u k)) w = nope (cc (w (wroteRec u k) refl .0))
       go (some (verRec k u o)) w = nope (cc (w (verRec k u o) refl .0))
       go (some (plainRec k b)) w = nope (cc (w (plainRec k b) refl .0))
 
-  pub open-pairs : (h : Handle) → liveIn (activeKey h) (pairsIn m) ≡ isSome (look m (txnActive (h .version)))
-  unfolding liveIn
-  open-pairs h = rw (look-pairs (txnActive (h .version))) (go (look m (txnActive (h .version))))
-    where
-      go : (z : Option Rec) → isSome (valueIn z) ≡ isSome z
-      go none = refl
-      go (some r) = refl
+pub open-pairs : (h : Handle) {m : Map} → Sorted keyOrder m → liveIn (activeKey h) (pairsIn m) ≡ isSome (look m (txnActive (h .version)))
+open-pairs h s = live-pairs (txnActive (h .version)) s
