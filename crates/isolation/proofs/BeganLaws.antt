@@ -137,7 +137,7 @@ module _ {w : World} {T : Calls} {m : Map} (k : Kept w T m) (a : Ready w) where
       let below : n < 2 ^ 64 - 1 = below-max n (f .1) (s .0) in
       let p : planOf (r .handle) ≡ beginPlan n vs = ap planOf (s .2) ∙ plan-made n vs few in
       let q : u .len ≡ w .used + sizeAll (planOf (r .handle)) = b .ends u e .0 in
-      let sound : Sound (r .handle) = subst Sound (sym (s .2)) (handle-sound n false vs few (actives-rise sorted (k .fine)) (actives-fit (k .fine)) (f .1) (λ i. (f .0, below))) in (
+      let sound : Sound (r .handle) = subst Sound (sym (s .2)) (handle-sound n false vs few (actives-rise sorted) (actives-fit (k .fine)) (f .1) (λ i. (f .0, below))) in (
         record {
           map = ap (mapOf log) q ∙ b .map a z ∙ (λ j. afterAll (p j) (k .map j)) ∙ begin-pairs m;
           fine = fine-begin sorted (k .fine) (omega arith) few;
@@ -177,7 +177,7 @@ module _ {w : World} {T : Calls} {m : Map} (k : Kept w T m) (a : Ready w) where
           let n : ℕ = nextOf (look m nextVersion) in
           let z : changedNumber (r .answer) ≡ 0 = ap changedNumber e in
           let s = reading-says (w .used) n (actives m) r (b .answer a ∙ rw (k .map, next-pairs sorted (k .fine), active-pairs (k .fine))) z in
-          let sound : Sound (r .handle) = subst Sound (sym (s .1)) (handle-sound n true (actives m) (s .0) (actives-rise sorted (k .fine)) (actives-fit (k .fine)) (next-fits (k .fine) .1) (λ i. nope (cc))) in
+          let sound : Sound (r .handle) = subst Sound (sym (s .1)) (handle-sound n true (actives m) (s .0) (actives-rise sorted) (actives-fit (k .fine)) (next-fits (k .fine) .1) (λ i. nope (cc))) in
           record {
             map = k .map;
             fine = k .fine;

@@ -1,6 +1,6 @@
 -- The versions open, as a begin and the status read them: of a map of records they are its active records', and they rise. Assumes nothing.
-use Prim.Native.Nat.{ℕ, zero, suc, _^_, _<_, Ordering·lt}
-use mathlib.Core.Path.{_≡_, refl, sym, ap}
+use Prim.Native.Nat.{ℕ, zero, suc, _^_, _<_}
+use mathlib.Core.Path.{_≡_, refl, ap}
 use mathlib.Core.Bool.{true}
 use mathlib.Core.Option.{some}
 use mathlib.Core.List.{[], _∷_}
@@ -9,13 +9,8 @@ use lib.ListN.{length}
 use lib.Seq.{take-all}
 use borrow.Author.Tests.{lt-ltb}
 use Rattle.keycode.specs.Number.{be}
-use Rattle.keycode.specs.Order.{compareNat}
-use Rattle.keycode.specs.declared.order.Order.{Order}
-use Rattle.keycode.proofs.Basics.{nope, Ordered, below, same, above, ordered}
-use Rattle.keycode.proofs.OrderLaws.{nat-equal, nat-greater}
 use Rattle.keycode.proofs.NumberLaws.{num-be, length-be}
 use Rattle.keys.specs.Keys.{encode, txnActive}
-use Rattle.keys.proofs.KeyOrder.{order-active}
 use Rattle.keydir.specs.Place.{All, all-none, all-more}
 use Rattle.handle.specs.declared.payload.VersionRead.the-variants.{Read}
 use Rattle.handle.specs.Handles.{rising, risingFrom}
@@ -24,7 +19,8 @@ use Rattle.txn.specs.Ranges.{begins, pairsOf}
 use Rattle.mvcc_begin.specs.Active.{activeIn, versionsIn, keysOf, activeKeys, activeAt}
 use Rattle.history.specs.Records.{nextRec, activeRec, snapRec, wroteRec, verRec, plainRec, Map, Above, above-cons, Sorted, sorted-nil, sorted-cons}
 use Rattle.history.specs.Calls.{actives}
-use Rattle.records.specs.Stored.{pairsIn, orderingOf, keyOrder, Fine}
+use Rattle.records.specs.Stored.{pairsIn, keyOrder, Fine}
+use Rattle.records.proofs.OrderLaws.{order}
 
 -- ---- their keys
 
@@ -65,34 +61,22 @@ actives-fit (all-more {x = wroteRec v k} f a) i = actives-fit a i
 actives-fit (all-more {x = verRec k v o} f a) i = actives-fit a i
 actives-fit (all-more {x = plainRec k b} f a) i = actives-fit a i
 
-less-by : (o : Order) (v w : ℕ) → compareNat v w ≡ o → orderingOf o ≡ Ordering·lt → v < w
-less-by o v w = go (ordered v w)
-  where
-    go : Ordered v w → compareNat v w ≡ o → orderingOf o ≡ Ordering·lt → v < w
-    go (below h) q e = h
-    go (same p) q e = nope (cc (nat-equal v w p))
-    go (above h) q e = nope (cc (nat-greater v w h))
-
-active-less : (v w : ℕ) → v < 2 ^ 64 → w < 2 ^ 64 → keyOrder (txnActive v) (txnActive w) ≡ Ordering·lt → v < w
-unfolding keyOrder
-active-less v w h g e = less-by _ v w (sym (order-active v w h g)) e
-
-rising-above : {m : Map} → Sorted keyOrder m → All Fine m → (v : ℕ) → v < 2 ^ 64 → Above keyOrder (txnActive v) m → risingFrom v (actives m) ≡ true
+rising-above : {m : Map} → Sorted keyOrder m → (v : ℕ) → Above keyOrder (txnActive v) m → risingFrom v (actives m) ≡ true
 unfolding risingFrom actives
-rising-above sorted-nil a v h b = refl
-rising-above (sorted-cons {r = nextRec n} c s) (all-more f a) v h (above-cons q b) = rising-above s a v h b
-rising-above (sorted-cons {r = activeRec w} c s) (all-more f a) v h (above-cons q b) = rw (lt-ltb v w (active-less v w h f q)) (rising-above s a w f c)
-rising-above (sorted-cons {r = snapRec w z} c s) (all-more f a) v h (above-cons q b) = rising-above s a v h b
-rising-above (sorted-cons {r = wroteRec w k} c s) (all-more f a) v h (above-cons q b) = rising-above s a v h b
-rising-above (sorted-cons {r = verRec k w o} c s) (all-more f a) v h (above-cons q b) = rising-above s a v h b
-rising-above (sorted-cons {r = plainRec k z} c s) (all-more f a) v h (above-cons q b) = rising-above s a v h b
+rising-above sorted-nil v b = refl
+rising-above (sorted-cons {r = nextRec n} c s) v (above-cons q b) = rising-above s v b
+rising-above (sorted-cons {r = activeRec w} c s) v (above-cons q b) = rw (lt-ltb v w (order .by-active v w q)) (rising-above s w c)
+rising-above (sorted-cons {r = snapRec w z} c s) v (above-cons q b) = rising-above s v b
+rising-above (sorted-cons {r = wroteRec w k} c s) v (above-cons q b) = rising-above s v b
+rising-above (sorted-cons {r = verRec k w o} c s) v (above-cons q b) = rising-above s v b
+rising-above (sorted-cons {r = plainRec k z} c s) v (above-cons q b) = rising-above s v b
 
-pub actives-rise : {m : Map} → Sorted keyOrder m → All Fine m → rising (actives m) ≡ true
+pub actives-rise : {m : Map} → Sorted keyOrder m → rising (actives m) ≡ true
 unfolding rising actives
-actives-rise sorted-nil all-none = refl
-actives-rise (sorted-cons {r = nextRec n} c s) (all-more f a) = actives-rise s a
-actives-rise (sorted-cons {r = activeRec v} c s) (all-more f a) = rising-above s a v f c
-actives-rise (sorted-cons {r = snapRec v z} c s) (all-more f a) = actives-rise s a
-actives-rise (sorted-cons {r = wroteRec v k} c s) (all-more f a) = actives-rise s a
-actives-rise (sorted-cons {r = verRec k v o} c s) (all-more f a) = actives-rise s a
-actives-rise (sorted-cons {r = plainRec k z} c s) (all-more f a) = actives-rise s a
+actives-rise sorted-nil = refl
+actives-rise (sorted-cons {r = nextRec n} c s) = actives-rise s
+actives-rise (sorted-cons {r = activeRec v} c s) = rising-above s v c
+actives-rise (sorted-cons {r = snapRec v z} c s) = actives-rise s
+actives-rise (sorted-cons {r = wroteRec v k} c s) = actives-rise s
+actives-rise (sorted-cons {r = verRec k v o} c s) = actives-rise s
+actives-rise (sorted-cons {r = plainRec k z} c s) = actives-rise s

@@ -56,7 +56,7 @@ unfolding beginMap
 fine-begin {m} s a h l =
     let v = nextOf (look m nextVersion) in
     fine-put (activeRec v) (omega arith)
-    (fine-snap v (actives m) (omega arith) l (actives-rise s a) (actives-fit a) (fine-put (nextRec (suc v)) (omega arith, omega arith) a))
+    (fine-snap v (actives m) (omega arith) l (actives-rise s) (actives-fit a) (fine-put (nextRec (suc v)) (omega arith, omega arith) a))
 
 pub fine-write : (v : ℕ) (k : Key) (o : Option Bytes) {m : Map} → v < 2 ^ 64 → length k ≤ maxKey → All Fine m → All Fine (writeMap keyOrder v k o m)
 unfolding writeMap

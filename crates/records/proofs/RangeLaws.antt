@@ -74,6 +74,7 @@ numbers a b v = go (ordered v a) (ordered v b)
     go (same e) d = rw (nat-equal v a e, le-leb a v (omega arith)) (high d)
     go (above h) d = rw (nat-greater v a h, le-leb a v (omega arith)) (high d)
 
+-- the versions and the keys from one version to another, both included
 abbrev pub between : ℕ → ℕ → ℕ → Bool
 between a b x = leb a x && leb x b
 
@@ -81,7 +82,8 @@ abbrev pub versionRange : List ℕ → ℕ → ℕ → List ℕ → Bool
 versionRange k a b = inside Included (encode (version k a)) Included (encode (version k b))
 
 module _ (k : List ℕ) (a b : ℕ) (ha : a < 2 ^ 64) (hb : b < 2 ^ 64) where
-  range-version : (j : List ℕ) (v : ℕ) → v < 2 ^ 64 → versionRange k a b (encode (version j v)) ≡ tested (andThen (compareBytes j k) (compareNat v a)) (andThen (compareBytes j k) (compareNat v b))
+  range-version : (j : List ℕ) (v : ℕ) → v < 2 ^ 64
+      → versionRange k a b (encode (version j v)) ≡ tested (andThen (compareBytes j k) (compareNat v a)) (andThen (compareBytes j k) (compareNat v b))
   unfolding inside tested
   range-version j v h = rw (order-version j k v a h ha, order-version j k v b h hb)
 
@@ -99,12 +101,15 @@ module _ (k : List ℕ) (a b : ℕ) (ha : a < 2 ^ 64) (hb : b < 2 ^ 64) where
 
   range-ver : (j : List ℕ) (v : ℕ) (o : Option (List ℕ)) (m : Map) → v < 2 ^ 64 → pairsOf (versionRange k a b) (pairsIn m) ≡ pairsIn (versionsOf (between a b) k m)
       → pairsOf (versionRange k a b) (pairsIn (verRec j v o ∷ m)) ≡ pairsIn (versionsOf (between a b) k (verRec j v o ∷ m))
-  range-ver j v o m h i = by-cases (key≟ j k) (λ e. own e (between a b v) refl) (λ n. pairs-no (versionRange k a b) (verRec j v o) m (range-other j v h n) ∙ i ∙ ap pairsIn (sym (version-other (between a b) v o m n)))
+  range-ver j v o m h i =
+      by-cases (key≟ j k)
+      (λ e. own e (between a b v) refl)
+      (λ n. pairs-no (versionRange k a b) (verRec j v o) m (range-other j v h n) ∙ i ∙ ap pairsIn (sym (version-other (between a b) v o m n)))
     where
       own : j ≡ k → (t : Bool) → between a b v ≡ t → pairsOf (versionRange k a b) (pairsIn (verRec j v o ∷ m)) ≡ pairsIn (versionsOf (between a b) k (verRec j v o ∷ m))
       own e true q =
-          pairs-yes (versionRange k a b) (verRec j v o) m (rw e (range-same v h ∙ q)) ∙ ap (λ z. pairOf (verRec j v o) ∷ z) i ∙ sym (pairs-cons (verRec j v o) (versionsOf (between a b) k m))
-          ∙ ap pairsIn (sym (version-yes (between a b) v o m e q))
+          pairs-yes (versionRange k a b) (verRec j v o) m (rw e (range-same v h ∙ q)) ∙ ap (λ z. pairOf (verRec j v o) ∷ z) i
+          ∙ sym (pairs-cons (verRec j v o) (versionsOf (between a b) k m)) ∙ ap pairsIn (sym (version-yes (between a b) v o m e q))
       own e false q = pairs-no (versionRange k a b) (verRec j v o) m (rw e (range-same v h ∙ q)) ∙ i ∙ ap pairsIn (sym (version-no (between a b) v o m e q))
 
   pub range-pairs : {m : Map} → All Fine m → pairsOf (versionRange k a b) (pairsIn m) ≡ pairsIn (versionsOf (between a b) k m)

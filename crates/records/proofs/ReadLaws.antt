@@ -55,11 +55,13 @@ module _ {m : Map} (s : Sorted keyOrder m) (a : All Fine m) where
       go (some (verRec k v o)) w = nope (cc (w (verRec k v o) refl .0))
       go (some (plainRec k b)) w = nope (cc (w (plainRec k b) refl .0))
 
-  pub snapshot-pairs : (v : ℕ) → snapshotRead v (lookIn (encode (txnActiveSnapshot v)) (pairsIn m)) ≡ record { answer = SetAnswers.Fine; handle = handleOf v true (setOf (look m (txnActiveSnapshot v))) }
+  pub snapshot-pairs : (v : ℕ)
+      → snapshotRead v (lookIn (encode (txnActiveSnapshot v)) (pairsIn m)) ≡ record { answer = SetAnswers.Fine; handle = handleOf v true (setOf (look m (txnActiveSnapshot v))) }
   unfolding snapshotRead setFor payloadOf handleOf
   snapshot-pairs v = ap (snapshotRead v) (look-pairs (txnActiveSnapshot v) s) ∙ go (look m (txnActiveSnapshot v)) (look-says a (txnActiveSnapshot v))
     where
-      go : (z : Option Rec) → ((r : Rec) → z ≡ some r → (keyOf r ≡ txnActiveSnapshot v) × Fine r) → snapshotRead v (payloadIn z) ≡ record { answer = SetAnswers.Fine; handle = handleOf v true (setOf z) }
+      go : (z : Option Rec) → ((r : Rec) → z ≡ some r → (keyOf r ≡ txnActiveSnapshot v) × Fine r)
+          → snapshotRead v (payloadIn z) ≡ record { answer = SetAnswers.Fine; handle = handleOf v true (setOf z) }
       go none w = refl
       go (some (nextRec n)) w = nope (cc (w (nextRec n) refl .0))
       go (some (activeRec u)) w = nope (cc (w (activeRec u) refl .0))

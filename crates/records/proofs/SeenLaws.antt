@@ -88,8 +88,9 @@ module _ (h : Handle) (k : List ℕ) where
       own : j ≡ k → (b : Bool) → visible (sightOf h) v ≡ b → (c : Bool) → between 0 (h .version) v ≡ c
           → lastPair h (pairsIn (versionsOf (between 0 (h .version)) k (verRec j v o ∷ m))) ≡ said (lastOf (versionsOf (visible (sightOf h)) k (verRec j v o ∷ m)))
       own e true p true q =
-          rw (version-yes (between 0 (h .version)) v o m e q, version-yes (visible (sightOf h)) v o m e p, pair-cons h (verRec j v o) (versionsOf (between 0 (h .version)) k m), says true p, i, last-cons (verRec j v o) (versionsOf (visible (sightOf h)) k m))
-          (said-back (lastOf (versionsOf (visible (sightOf h)) k m)) j v o)
+          rw (version-yes (between 0 (h .version)) v o m e q, version-yes (visible (sightOf h)) v o m e p)
+          (rw (pair-cons h (verRec j v o) (versionsOf (between 0 (h .version)) k m), says true p, i, last-cons (verRec j v o) (versionsOf (visible (sightOf h)) k m))
+          (said-back (lastOf (versionsOf (visible (sightOf h)) k m)) j v o))
       own e true p false q = nope (cc (visible-within h v p, q))
       own e false p true q =
           rw (version-yes (between 0 (h .version)) v o m e q, version-no (visible (sightOf h)) v o m e p, pair-cons h (verRec j v o) (versionsOf (between 0 (h .version)) k m), says false p, i)
