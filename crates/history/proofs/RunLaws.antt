@@ -20,13 +20,12 @@ use lib.ListN.{length}
 use Rattle.history.specs.Store.{isSome, Rep}
 use Rattle.keys.specs.Keys.{Fields, nextVersion, txnActive, txnActiveSnapshot, version}
 use Rattle.history.specs.Records.{Rec, plainRec, Map, look, Sorted, sorted-nil, Order}
-use Rattle.history.specs.Calls.{nextOf, setOf, view, actives, beginHandle, writeMap, commitMap, rollbackMap, shown, conflict, visible, versionsOf, lastOf, scanStep, lastVersion, searched}
-use Rattle.history.specs.Run.{Entry, beginE, readE, asOfE, getE, writeE, commitE, rollbackE, otherE, Trace, event, events, Gave, by-begin, by-read, by-asOf, usable, pick, tooLong, writeNumber, wrote-map, Run, run-empty, do-begin, do-read, do-asOf, do-get, do-write, do-noroom, do-commit, do-rollback, do-plain, do-other}
+use Rattle.history.specs.Calls.{nextOf, setOf, view, actives, beginHandle, writeMap, commitMap, rollbackMap, shown, conflict, visible, versionsOf, lastOf, lastVersion, searched}
+use Rattle.history.specs.Run.{Entry, beginE, readE, asOfE, writeE, commitE, rollbackE, otherE, Trace, event, events, Gave, by-begin, by-read, by-asOf, usable, pick, tooLong, writeNumber, wrote-map, Run, run-empty, do-begin, do-read, do-asOf, do-write, do-noroom, do-commit, do-rollback, do-plain, do-other}
 use Rattle.history.proofs.ConflictLaws.{met, meant, peak-congr}
 use Rattle.history.proofs.KeepLaws.{keeps-empty, open-of, begin-guard, keeps-begin, keeps-write, keeps-commit, keeps-undo, keeps-noted, keeps-unseen}
 use Rattle.history.proofs.EffectLaws.{empty, plain-unseen, begins-map, writes, commits, undoes, sorted-begin, sorted-write}
 use Rattle.history.proofs.MapLaws.{sorted-delAll, sorted-put}
-use Rattle.history.proofs.StepLaws.{Step, scan-step, step-congr}
 use Rattle.history.proofs.ScanLaws.{last-is, last-top, last-peak, numberOf, hides-hidden}
 
 pub after-events : {T1 T : Trace} → After T1 T → After (events T1) (events T)
@@ -39,7 +38,6 @@ abbrev Ok : Trace → Entry → Type 0
 Ok T (beginE h) = h .ro ≡ false
 Ok T (readE h) = (h .ro ≡ true) × Given (events T) (h .ver) (h .set)
 Ok T (asOfE v h) = (h .ro ≡ true) × (h .ver ≡ v) × (v ≢ 0 → (status (events T) v ≢ unborn) × Given (past (events T) v) v (h .set))
-Ok T (getE h k r) = Unit {0}
 Ok T (writeE h k o n) = Unit {0}
 Ok T (commitE h) = Unit {0}
 Ok T (rollbackE h) = Unit {0}
@@ -210,7 +208,6 @@ module _ {cmp : Fields → Fields → Ordering} (L : Order cmp) where
       record { good = good-cons (S .good) (begin-guard (S .good) (S .rep) b); rep = keeps-begin (S .good) (S .rep) b; sorted = sorted-begin L m (S .sorted); ok = ok-cons refl (S .ok); bound = omega (arith, S .rep .next) }
   run-state (do-read {m = m} r) = let S = run-state r in state-noted S (refl, reader-given S) refl
   run-state (do-asOf {m = m} r v l) = let S = run-state r in state-noted S (refl, refl, asOf-given S v l) refl
-  run-state (do-get r h k u) = state-noted (run-state r) tt refl
   run-state (do-write {m = m} r h G k o) = state-write (run-state r) h G k o (writeNumber m h k o) refl
   run-state (do-noroom r h G k o n e) = state-noted (run-state r) tt refl
   run-state (do-commit r h G u) = state-commit (run-state r) h (h .ro) refl u
@@ -291,35 +288,36 @@ module _ {cmp : Fields → Fields → Ordering} (L : Order cmp) where
       none-of true z = refl
       none-of false z = refl
 
-  -- THEOREM. A write meets Conflict, if nothing earlier refuses it, exactly when the history has a clash
-  pub write-conflict : {m : Map} {T T1 : Trace} → Run cmp m T → (h : Sight) → After (beginE h ∷ T1) T → usable m h ≡ true → (k : Key) (o : Option Bytes) → length k ≤ 64 → tooLong o ≡ false → (writeNumber m h k o ≡ 6 → Clash (events T) (h .ver) k) × (Clash (events T) (h .ver) k → writeNumber m h k o ≡ 6)
+  -- a handle that a begin gave is a read-write one
+  pub begin-own : {m : Map} {T T1 : Trace} → Run cmp m T → (h : Sight) → After (beginE h ∷ T1) T → h .ro ≡ false
+  begin-own r h a = ok-of (run-state r .ok) a
+
+  -- THEOREM. A write's search finds a conflict exactly where the history has a clash
+  pub conflict-right : {m : Map} {T T1 : Trace} → Run cmp m T → (h : Sight) → After (beginE h ∷ T1) T → (k : Key)
+      → (conflict m h k ≡ true → Clash (events T) (h .ver) k) × (Clash (events T) (h .ver) k → conflict m h k ≡ true)
+  conflict-right r h a k = search-right (run-state r) h a k
+
+  -- and nothing else stops a write of a transaction that is open, its key and value within the limits
+  pub write-open : {m : Map} {T T1 : Trace} → Run cmp m T → (h : Sight) → After (beginE h ∷ T1) T → usable m h ≡ true → (k : Key) (o : Option Bytes) → length k ≤ 64 → tooLong o ≡ false
+      → writeNumber m h k o ≡ pick (conflict m h k) 6 0
   unfolding writeNumber
-  write-conflict {m} {T} {T1} r h a u k o l v = ((λ e. (search-right S h a k) .0 (six (conflict m h k) (sym number ∙ e))), (λ c. number ∙ rw ((search-right S h a k) .1 c)))
+  write-open {m} r h a u k o l v = let e = begin-own r h a in rw (e, usable-open m h e u, le-ltb 64 (length k) l, v)
+
+  -- the versions that an as-of may name: 0, and those that began
+  pub run-born : {m : Map} {T : Trace} → Run cmp m T → (v : ℕ) → v < nextOf (look m nextVersion) → v ≢ 0 → status (events T) v ≢ unborn
+  run-born r v l n = let S = run-state r in born (S .good) v (positive v n) (omega (arith, S .rep .next))
     where
-      S : State cmp m T
-      S = run-state r
+      positive : (v : ℕ) → v ≢ 0 → 0 < v
+      positive zero n = absurd (n refl)
+      positive (suc v) n = omega arith
 
-      e : h .ro ≡ false
-      e = ok-of (S .ok) a
-
-      number : writeNumber m h k o ≡ pick (conflict m h k) 6 0
-      number = rw (e, usable-open m h e u, le-ltb 64 (length k) l, v)
-
-      six : (b : Bool) → pick b 6 0 ≡ 6 → b ≡ true
-      six true p = refl
-      six false p = absurd (omega arith)
+  pub run-unborn : {m : Map} {T : Trace} → Run cmp m T → (v : ℕ) → nextOf (look m nextVersion) ≤ v → status (events T) v ≡ unborn
+  run-unborn r v l = let S = run-state r in outside (S .good) v (inr (omega (arith, S .rep .next)))
 
   -- THEOREM. No version is given twice
   pub begin-new : {m : Map} {T : Trace} → Run cmp m T → (h : Sight) (T1 : Trace) → After (beginE h ∷ T1) T → (beginHandle m) .ver ≢ h .ver
   unfolding events
   begin-new {m} {T} r h T1 a e = (past-is (after-events a) ((run-state r) .good)) .0 (outside ((run-state r) .good) (h .ver) (inr (omega (arith, (run-state r) .rep .next))))
-
-  -- THEOREM. A scan step gives the first key, in bounds and after the last one given, of what a get would show
-  pub scan-writer : {m : Map} {T T1 : Trace} → Run cmp m T → (h : Sight) → After (beginE h ∷ T1) T → usable m h ≡ true → (p : Key → Bool) → Step cmp (λ k. over (lastWrite (events T) (h .ver) k) (laid (events T1) k)) p (scanStep m h p)
-  scan-writer r h a u p = step-congr (λ k. get-writer r h a u k) (scan-step L ((run-state r) .sorted) h p)
-
-  pub scan-reader : {m : Map} {T T1 : Trace} → Run cmp m T → (h : Sight) → After (readE h ∷ T1) T → (p : Key → Bool) → Step cmp (laid (events T1)) p (scanStep m h p)
-  scan-reader r h a p = step-congr (λ k. get-reader r h a k) (scan-step L ((run-state r) .sorted) h p)
 
   -- the store says that a version is open just where the history says so
   pub run-open : {m : Map} {T : Trace} → Run cmp m T → (v : ℕ) → isSome (look m (txnActive v)) ≡ isOpen (status (events T) v)
@@ -327,6 +325,3 @@ module _ {cmp : Fields → Fields → Ordering} (L : Order cmp) where
 
   pub run-sorted : {m : Map} {T : Trace} → Run cmp m T → Sorted cmp m
   run-sorted r = (run-state r) .sorted
-
-  pub run-bounded : {m : Map} {T : Trace} → Run cmp m T → (k : Key) (x : ℕ) → (view m) .vers k x ≢ none → x ≤ lastVersion
-  run-bounded {m} {T} r k x n = omega (arith, within ((run-state r) .good) x (λ u. n ((run-state r) .rep .vers k x ∙ rw u)), (run-state r) .bound)

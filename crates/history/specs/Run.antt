@@ -11,14 +11,13 @@ use Rattle.history.specs.History.{Key, Bytes}
 use Rattle.history.specs.Records.{Map, look, put, plainRec}
 use Rattle.history.specs.History.{Sight, Event, began, wrote, committed, undone, noted, History, After}
 use Rattle.history.specs.Store.{isSome}
-use Rattle.history.specs.Calls.{nextOf, setOf, actives, beginHandle, beginMap, writeMap, commitMap, rollbackMap, shown, conflict, lastVersion}
+use Rattle.history.specs.Calls.{nextOf, setOf, actives, beginHandle, beginMap, writeMap, commitMap, rollbackMap, conflict, lastVersion}
 
 -- a call and what it answered; a refused call that is not named changes nothing and is `other`
 pub data Entry : Type 0 where
   beginE : Sight → Entry
   readE : Sight → Entry
   asOfE : ℕ → Sight → Entry
-  getE : Sight → Key → Option Bytes → Entry
   writeE : Sight → Key → Option Bytes → ℕ → Entry
   commitE : Sight → Entry
   rollbackE : Sight → Entry
@@ -36,7 +35,6 @@ abbrev pub event : Entry → Event
 event (beginE h) = began h
 event (readE h) = noted
 event (asOfE v h) = noted
-event (getE h k r) = noted
 event (writeE h k o n) = writeEvent n h k o
 event (commitE h) = cond (h .ro) noted (committed (h .ver))
 event (rollbackE h) = cond (h .ro) noted (undone (h .ver))
@@ -90,7 +88,6 @@ module _ (cmp : Fields → Fields → Ordering) where
     do-begin : {m : Map} {T : Trace} → Run m T → nextOf (look m nextVersion) < lastVersion → length (actives m) < 16 → Run (beginMap cmp m) (beginE (beginHandle m) ∷ T)
     do-read : {m : Map} {T : Trace} → Run m T → Run m (readE (readHandle m) ∷ T)
     do-asOf : {m : Map} {T : Trace} → Run m T → (v : ℕ) → v < nextOf (look m nextVersion) → Run m (asOfE v (asOfHandle v m) ∷ T)
-    do-get : {m : Map} {T : Trace} → Run m T → (h : Sight) (k : Key) → usable m h ≡ true → Run m (getE h k (shown m h k) ∷ T)
     do-write : {m : Map} {T T1 : Trace} → Run m T → (h : Sight) → Gave h T1 T → (k : Key) (o : Option Bytes) → Run (wrote-map (writeNumber m h k o) m h k o) (writeE h k o (writeNumber m h k o) ∷ T)
     do-noroom : {m : Map} {T T1 : Trace} → Run m T → (h : Sight) → Gave h T1 T → (k : Key) (o : Option Bytes) (n : ℕ) → writeNumber m h k o ≡ 0 → Run m (writeE h k o (suc n) ∷ T)
     do-commit : {m : Map} {T T1 : Trace} → Run m T → (h : Sight) → Gave h T1 T → usable m h ≡ true → Run (cond (h .ro) m (commitMap (h .ver) m)) (commitE h ∷ T)

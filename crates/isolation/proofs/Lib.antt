@@ -8,3 +8,4 @@ pub mod WroteLaws
 pub mod PlainLaws
 pub mod HoldLaws
 pub mod ShownLaws
+pub mod MeetLaws

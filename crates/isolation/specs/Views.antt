@@ -7,13 +7,15 @@ use mathlib.Core.Option.{Option, none, some}
 use mathlib.Core.Logic.{_≢_, _⊎_}
 use mathlib.Core.List.{List, _∷_}
 use lib.ListN.{take, drop}
-use Rattle.keycode.specs.declared.refusal.Refusal.the-variants.{Absent}
+use Rattle.keycode.specs.declared.refusal.Refusal.the-variants.{Absent, Conflict}
 use Rattle.keycode.specs.declared.parts.Part.{Part}
+use Rattle.recovery.specs.declared.request.Changed.{Changed}
+use Rattle.recovery.specs.declared.request.Changed.the-variants as Change
 use Rattle.bitcask.specs.declared.answers.Located.{Located}
 use Rattle.bitcask.specs.declared.answers.Located.the-variants as Got
 use Rattle.handle.specs.declared.handle.Handle.{Handle}
 use Rattle.txn.specs.declared.begun.Begun.{Begun}
-use Rattle.history.specs.History.{Key, Bytes, After, opened, status, lastWrite, over, laid, past}
+use Rattle.history.specs.History.{Key, Bytes, After, Clash, opened, status, lastWrite, over, laid, past}
 use Rattle.isolation.specs.World.{begins, beginsReading, beginsAsOf, Calls, Gave, meaning}
 
 -- the handle may be used after the calls T: it is read-only, or its transaction is open
@@ -34,3 +36,9 @@ pub data Sees (T : Calls) (h : Handle) (f : Key → Option Bytes) : Type 0 where
 abbrev pub Shows : List ℕ → Located → Option Bytes → Type 0
 Shows log r none = r ≡ Got.Refused Absent
 Shows log r (some v) = (p : Part) × (r ≡ Got.At p) × (take (p .len) (drop (p .at) log) ≡ v)
+
+-- a write's answer: 6 exactly where another transaction has an accepted write of the key and is open, or committed after this one began;
+-- else what the room in log and table says, 0, 7 or 8
+pub data Meets (T : Calls) (h : Handle) (k : Key) (room r : Changed) : Type 0 where
+  clashes : Clash (meaning T) (h .version) k → r ≡ Change.Refused Conflict → Meets T h k room r
+  free : (Clash (meaning T) (h .version) k → ⊥) → r ≡ room → Meets T h k room r
