@@ -1,8 +1,8 @@
 -- The begins keep the store's records: a begin that answers 0 makes of them what the begin on records makes, and each gives the handle
 -- that its like on records gives. Assumes nothing.
-use Prim.Native.Nat.{ℕ, suc, _+_, _-_, _^_, _<_, _≤_}
+use Prim.Native.Nat.{ℕ, _+_, _-_, _^_, _<_, _≤_}
 use mathlib.Core.Path.{_≡_, refl, sym, ap, _∙_, subst}
-use mathlib.Core.Bool.{Bool, true, false}
+use mathlib.Core.Bool.{true, false}
 use mathlib.Core.Option.{Option, none, some}
 use mathlib.Core.List.{List, [], _∷_}
 use native.Mathlib.Decide.{decLt}
@@ -19,12 +19,10 @@ use Rattle.keydir.specs.Place.{All}
 use Rattle.recovery.specs.declared.request.Used.{Used}
 use Rattle.recovery.specs.declared.request.Changed.{Changed}
 use Rattle.recovery.specs.declared.request.Changed.the-variants.{Done, Refused}
-use Rattle.recovery.specs.Map.{Pair}
 use Rattle.recovery.specs.Recover.{mapOf}
 use Rattle.recovery.specs.Agree.{Agrees}
 use Rattle.recovery.specs.Promises.{changedNumber}
 use Rattle.bitcask.specs.Append.{sizeAll, bytesAll, afterAll}
-use Rattle.handle.specs.declared.handle.Handle.{Handle}
 use Rattle.handle.specs.declared.payload.SetAnswer.the-variants as SetAnswers
 use Rattle.handle.specs.declared.payload.SetRead.{SetRead}
 use Rattle.handle.specs.Handles.{rising, handleOf}
@@ -34,20 +32,20 @@ use Rattle.txn.specs.declared.begun.Begun.{Begun}
 use Rattle.mvcc_begin.specs.Plan.{planBy, beginPlan, planOf}
 use Rattle.txn.specs.Given.{refusedBy}
 use Rattle.txn.proofs.CheckLaws.{not-done}
-use Rattle.mvcc_begin.specs.Begins.{beginWith, asOfWith}
+use Rattle.mvcc_begin.specs.Begins.{readingWith, beginWith, asOfWith}
 use Rattle.mvcc_begin.specs.Promises.{Begins, BeginsReading, BeginsAsOf}
 use Rattle.history.specs.Records.{Rec, nextRec, activeRec, snapRec, wroteRec, verRec, plainRec, keyOf, Map, look, Sorted}
 use Rattle.history.specs.Calls.{nextOf, setOf as snapOf, actives, beginHandle, beginMap}
 use Rattle.history.specs.Run.{Entry, beginE, readE, asOfE, otherE, Trace, readHandle, asOfHandle, do-begin, do-read, do-asOf}
 use Rattle.history.specs.Run as H
 use Rattle.history.proofs.RunLaws.{run-sorted}
-use Rattle.records.specs.Stored.{pairsIn, keyOrder, Fine, sightOf}
+use Rattle.records.specs.Stored.{keyOrder, Fine, sightOf}
 use Rattle.records.proofs.OrderLaws.{order}
 use Rattle.records.proofs.PlanLaws.{begin-pairs}
 use Rattle.records.proofs.FineLaws.{fine-begin}
 use Rattle.records.proofs.ActiveLaws.{active-pairs, actives-fit, actives-rise}
 use Rattle.records.proofs.ReadLaws.{look-says, next-pairs, snapshot-pairs}
-use Rattle.isolation.specs.World.{World, Call, begins, beginsReading, beginsAsOf, Calls, changedTo, onDone, entryOf, traceOf}
+use Rattle.isolation.specs.World.{World, begins, beginsReading, beginsAsOf, Calls, changedTo, onDone, traceOf}
 use Rattle.isolation.proofs.KeptLaws.{Sound, Kept, Ready, given-cases, kept-other, kept-refused, refused-same}
 use Rattle.isolation.proofs.BegunLaws.{begin-says, reading-says, as-of-says, sight-made, handle-sound}
 
@@ -60,7 +58,7 @@ below-max n l d = go (decLt n (2 ^ 64 - 1))
 
 -- ---- what the records hold
 
-next-fits : {m : Map} → All Fine m → (0 < nextOf (look m nextVersion)) × (nextOf (look m nextVersion) < 2 ^ 64)
+pub next-fits : {m : Map} → All Fine m → (0 < nextOf (look m nextVersion)) × (nextOf (look m nextVersion) < 2 ^ 64)
 next-fits {m} a = go (look m nextVersion) (look-says a nextVersion)
   where
     go : (z : Option Rec) → ((r : Rec) → z ≡ some r → (keyOf r ≡ nextVersion) × Fine r) → (0 < nextOf z) × (nextOf z < 2 ^ 64)
@@ -121,7 +119,7 @@ module _ {w : World} {T : Calls} {m : Map} (k : Kept w T m) (a : Ready w) where
   sorted : Sorted keyOrder m
   sorted = run-sorted order (k .run)
 
-  begin-at : (r : Begun) {log t : List ℕ} → Begins (w .log) (w .used) (w .table) r log t → r ≡ beginWith (w .log) (w .used) (length (w .table)) (nextOf (look m nextVersion)) (some (actives m))
+  pub begin-at : (r : Begun) {log t : List ℕ} → Begins (w .log) (w .used) (w .table) r log t → r ≡ beginWith (w .log) (w .used) (length (w .table)) (nextOf (look m nextVersion)) (some (actives m))
   begin-at r b = b .answer a ∙ rw (k .map, next-pairs sorted (k .fine), active-pairs (k .fine))
 
   made-begin : (r : Begun) (u : Used) {log t : List ℕ} → r .answer ≡ Done u → Begins (w .log) (w .used) (w .table) r log t
@@ -162,6 +160,9 @@ module _ {w : World} {T : Calls} {m : Map} (k : Kept w T m) (a : Ready w) where
 
   -- ---- read-only
 
+  pub reading-at : (r : Begun) → BeginsReading (w .log) (w .used) (w .table) r → r ≡ readingWith (w .used) (nextOf (look m nextVersion)) (some (actives m))
+  reading-at r b = b .answer a ∙ rw (k .map, next-pairs sorted (k .fine), active-pairs (k .fine))
+
   reading-entry : (r : Begun) (u : Used) → r .answer ≡ Done u → r .handle ≡ handleOf (nextOf (look m nextVersion)) true (actives m) → length (actives m) ≤ maxOpen
       → onDone (r .answer) (readE (sightOf (r .handle))) otherE ≡ readE (readHandle m)
   reading-entry r u e q l = rw e (ap readE (ap sightOf q ∙ sight-made (nextOf (look m nextVersion)) true (actives m) l))
@@ -176,7 +177,7 @@ module _ {w : World} {T : Calls} {m : Map} (k : Kept w T m) (a : Ready w) where
       go (Done u) e =
           let n : ℕ = nextOf (look m nextVersion) in
           let z : changedNumber (r .answer) ≡ 0 = ap changedNumber e in
-          let s = reading-says (w .used) n (actives m) r (b .answer a ∙ rw (k .map, next-pairs sorted (k .fine), active-pairs (k .fine))) z in
+          let s = reading-says (w .used) n (actives m) r (reading-at r b) z in
           let sound : Sound (r .handle) = subst Sound (sym (s .1)) (handle-sound n true (actives m) (s .0) (actives-rise sorted) (actives-fit (k .fine)) (next-fits (k .fine) .1) (λ i. nope (cc))) in
           record {
             map = k .map;
@@ -191,7 +192,7 @@ module _ {w : World} {T : Calls} {m : Map} (k : Kept w T m) (a : Ready w) where
       → length (snapOf (look m (txnActiveSnapshot v))) ≤ maxOpen → onDone (r .answer) (asOfE v (sightOf (r .handle))) otherE ≡ asOfE v (asOfHandle v m)
   as-of-entry v r u e q l = rw e (ap (asOfE v) (ap sightOf q ∙ sight-made v true (snapOf (look m (txnActiveSnapshot v))) l))
 
-  as-of-at : (v : ℕ) (r : Begun) → BeginsAsOf (w .log) (w .used) (w .table) v r
+  pub as-of-at : (v : ℕ) (r : Begun) → BeginsAsOf (w .log) (w .used) (w .table) v r
       → r ≡ pick (leb (nextOf (look m nextVersion)) v) (refusedBy NoSuchVersion) (asOfWith (w .used) SetAnswers.Fine (handleOf v true (snapOf (look m (txnActiveSnapshot v)))))
   as-of-at v r b =
       b .answer a ∙ rw (k .map, next-pairs sorted (k .fine))

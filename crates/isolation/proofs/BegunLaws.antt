@@ -1,30 +1,23 @@
 -- The calls that give a handle keep the store's records: a begin that answers 0 makes the records that a begin makes, and every handle
 -- given is sound. Assumes nothing.
-use Prim.Native.Nat.{ℕ, suc, _+_, _-_, _^_, _<_, _≤_}
+use Prim.Native.Nat.{ℕ, _-_, _^_, _<_, _≤_}
 use mathlib.Core.Path.{_≡_, refl, sym, ap, _∙_, subst}
 use mathlib.Core.Bool.{Bool, true, false}
-use mathlib.Core.Option.{Option, none, some}
-use mathlib.Core.Logic.{_⊎_, inl, inr}
-use mathlib.Core.List.{List, [], _∷_}
-use native.Mathlib.Omega.{arith}
+use mathlib.Core.Option.{some}
+use mathlib.Core.List.{List}
 use lib.Dec.{leb, eqb}
 use lib.ListN.{length}
-use borrow.Author.Tests.{leb-true, leb-false, eqb-true, eqb-false}
+use borrow.Author.Tests.{leb-true, leb-false, eqb-false}
 use Rattle.keycode.specs.Tests.{pick}
 use Rattle.keycode.specs.Limits.{maxOpen}
-use Rattle.keycode.specs.Refusals.{numberOf}
 use Rattle.keycode.specs.declared.refusal.Refusal.{Refusal}
 use Rattle.keycode.specs.declared.refusal.Refusal.the-variants.{TooManyOpen, NoSuchVersion, VersionsSpent}
-use Rattle.keycode.proofs.Basics.{nope}
-use Rattle.keys.specs.Keys.{nextVersion, txnActiveSnapshot}
-use Rattle.recovery.specs.declared.request.Used.{Used}
 use Rattle.recovery.specs.declared.request.Changed.{Changed}
 use Rattle.recovery.specs.declared.request.Changed.the-variants.{Done, Refused}
 use Rattle.recovery.specs.Promises.{changedNumber}
-use Rattle.handle.specs.declared.handle.Handle.{Handle}
 use Rattle.handle.specs.declared.payload.SetAnswer.the-variants as SetAnswers
 use Rattle.handle.specs.declared.payload.SetRead.{SetRead}
-use Rattle.handle.specs.Handles.{setOf, rising, handleOf, soundHandle}
+use Rattle.handle.specs.Handles.{rising, handleOf}
 use Rattle.handle.specs.Payloads.{Versions}
 use Rattle.handle.proofs.HandleLaws.{made-set, made-sound}
 use Rattle.txn.specs.declared.begun.Begun.{Begun}
@@ -33,7 +26,6 @@ use Rattle.txn.proofs.CheckLaws.{not-done}
 use Rattle.bitcask.specs.Append.{appendAnswer}
 use Rattle.mvcc_begin.specs.Plan.{beginPlan}
 use Rattle.mvcc_begin.specs.Begins.{readingWith, begunBy, beginWith, asOfWith}
-use Rattle.history.specs.History.{Sight}
 use Rattle.records.specs.Stored.{sightOf}
 use Rattle.isolation.proofs.KeptLaws.{Sound}
 

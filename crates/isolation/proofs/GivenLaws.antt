@@ -1,12 +1,9 @@
 -- Handles given: what a call adds to the handles that were given before, and how the history counts the call that gave one. Assumes
 -- nothing.
 use Prim.Native.Nat.{ℕ}
-use mathlib.Core.Path.{_≡_, refl, sym, ap, _∙_, subst}
+use mathlib.Core.Path.{_≡_, refl, ap, _∙_, subst}
 use mathlib.Core.Logic.{_⊎_, inl, inr}
-use mathlib.Core.List.{List, [], _∷_}
-use Rattle.keycode.specs.Refusals.{numberOf}
-use Rattle.keycode.specs.declared.refusal.Refusal.{Refusal}
-use Rattle.keycode.proofs.Basics.{nope}
+use mathlib.Core.List.{List, _∷_}
 use Rattle.recovery.specs.declared.request.Used.{Used}
 use Rattle.recovery.specs.declared.request.Changed.{Changed}
 use Rattle.recovery.specs.declared.request.Changed.the-variants.{Done, Refused}

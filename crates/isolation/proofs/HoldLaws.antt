@@ -10,12 +10,11 @@ use Rattle.keydir.specs.Place.{all-none}
 use Rattle.recovery.specs.declared.request.Changed.{Changed}
 use Rattle.recovery.specs.Recover.{items, itemsOf, fold, recovered, view, mapOf}
 use Rattle.handle.specs.declared.handle.Handle.{Handle}
-use Rattle.txn.specs.declared.begun.Begun.{Begun}
 use Rattle.history.specs.History.{After, now, later}
 use Rattle.history.specs.Records.{Map}
 use Rattle.history.specs.Run.{run-empty, otherE}
 use Rattle.records.specs.Stored.{pairsIn}
-use Rattle.isolation.specs.World.{World, Call, opens, compacts, begins, beginsReading, beginsAsOf, resumes, gets, sets, deletes, scans, scansPrefix, commits, rollsBack, getsPlain, setsPlain, states, counts, looks, steps, Calls, usedBy, changedTo, Step, compacting, beginning, beginningReading, beginningAsOf, resuming, getting, setting, deleting, scanning, scanningPrefix, committing, rollingBack, gettingPlain, settingPlain, stating, counting, looking, stepping, Given, by-begin, by-reading, by-asOf, Fair, Run, first, opened, called, entryOf, traceOf}
+use Rattle.isolation.specs.World.{World, Call, opens, Calls, Step, compacting, beginning, beginningReading, beginningAsOf, resuming, getting, setting, deleting, scanning, scanningPrefix, committing, rollingBack, gettingPlain, settingPlain, stating, counting, looking, stepping, Given, by-begin, by-reading, by-asOf, Fair, Run, first, opened, called, entryOf, traceOf}
 use Rattle.isolation.proofs.KeptLaws.{Kept, Ready, given-cases, kept-other, kept-compacted, kept-opened}
 use Rattle.isolation.proofs.BeganLaws.{begun, made-reading, made-as-of}
 use Rattle.isolation.proofs.WroteLaws.{made-write}

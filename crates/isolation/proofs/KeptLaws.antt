@@ -4,7 +4,7 @@ use Prim.Native.Nat.{ℕ, _-_, _^_, _<_}
 use mathlib.Core.Path.{_≡_, refl, sym, ap, _∙_, subst}
 use mathlib.Core.Bool.{Bool, true, false}
 use mathlib.Core.Logic.{_⊎_, inl, inr}
-use mathlib.Core.List.{List, [], _∷_}
+use mathlib.Core.List.{List, _∷_}
 use lib.Dec.{leb}
 use lib.ListN.{length}
 use Rattle.keycode.specs.Tests.{pick, ifDone}
@@ -20,7 +20,7 @@ use Rattle.recovery.specs.declared.request.Changed.{Changed}
 use Rattle.recovery.specs.declared.request.Changed.the-variants.{Done, Refused}
 use Rattle.recovery.specs.Recover.{mapOf}
 use Rattle.recovery.specs.Agree.{fit, Agrees}
-use Rattle.recovery.specs.Promises.{changedNumber, Opens, openAnswer}
+use Rattle.recovery.specs.Promises.{Opens}
 use Rattle.recovery.proofs.OpenLaws.{open-agrees, open-map}
 use Rattle.bitcask.specs.Append.{sizeAll}
 use Rattle.compaction.specs.Compaction.{entriesOf}
@@ -29,13 +29,12 @@ use Rattle.handle.specs.declared.handle.Handle.{Handle}
 use Rattle.handle.specs.Handles.{setOf, soundHandle}
 use Rattle.handle.specs.Payloads.{Versions}
 use Rattle.txn.specs.declared.begun.Begun.{Begun}
-use Rattle.txn.proofs.CheckLaws.{not-done}
-use Rattle.history.specs.History.{After, now, later}
+use Rattle.history.specs.History.{After}
 use Rattle.history.specs.Records.{Map}
 use Rattle.history.specs.Run.{Entry, otherE, Trace, do-other}
 use Rattle.history.specs.Run as H
 use Rattle.records.specs.Stored.{pairsIn, keyOrder, Fine}
-use Rattle.isolation.specs.World.{World, Call, opens, compacts, begins, beginsReading, beginsAsOf, Calls, usedBy, isDone, changedTo, compactedTo, Gave, Given, by-begin, by-reading, by-asOf, onDone, entryOf, traceOf}
+use Rattle.isolation.specs.World.{World, Call, begins, beginsReading, beginsAsOf, Calls, usedBy, isDone, compactedTo, Gave, Given, by-begin, by-reading, by-asOf, entryOf, traceOf}
 use Rattle.isolation.proofs.GivenLaws.{after-cons}
 
 -- a handle as the store gives it

@@ -9,3 +9,6 @@ pub mod PlainLaws
 pub mod HoldLaws
 pub mod ShownLaws
 pub mod MeetLaws
+pub mod OverLaws
+pub mod AnswerLaws
+pub mod Isolation

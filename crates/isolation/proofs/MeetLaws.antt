@@ -1,17 +1,14 @@
 -- Theorems: when a write meets Conflict, and what calls with the handle of a transaction that has ended answer. Assumes nothing.
-use Prim.Native.Nat.{ℕ, suc, _^_, _<_, _≤_}
-use mathlib.Core.Path.{_≡_, refl, sym, ap, _∙_, subst}
+use Prim.Native.Nat.{ℕ, suc, _≤_}
+use mathlib.Core.Path.{_≡_, refl, sym, ap, _∙_}
 use mathlib.Core.Bool.{Bool, true, false}
 use mathlib.Core.Option.{Option, none, some}
-use mathlib.Core.Logic.{_≢_}
 use mathlib.Core.List.{List, _∷_}
 use native.Mathlib.Omega.{arith}
-use lib.Dec.{leb, ltb}
+use lib.Dec.{leb}
 use lib.ListN.{length}
 use borrow.Author.Tests.{le-ltb}
 use Rattle.keycode.specs.Limits.{maxKey, maxValue}
-use Rattle.keycode.specs.Refusals.{numberOf}
-use Rattle.keycode.specs.declared.refusal.Refusal.{Refusal}
 use Rattle.keycode.specs.declared.refusal.Refusal.the-variants.{Absent, ReadOnly, NotOpen, KeyTooLong, ValueTooLong, Conflict, LogFull, TableFull, TooManyOpen, NoSuchVersion, VersionsSpent, BadStore, BadRequest}
 use Rattle.keycode.proofs.Basics.{nope}
 use Rattle.recovery.specs.declared.request.Changed.{Changed}
@@ -32,10 +29,10 @@ use Rattle.history.proofs.RunLaws.{conflict-right, write-open}
 use Rattle.records.specs.Stored.{sightOf}
 use Rattle.records.proofs.OrderLaws.{order}
 use Rattle.isolation.specs.World.{World, Calls, begins, Gave, by-begin, meaning}
-use Rattle.isolation.specs.Views.{Meets, clashes, free}
+use Rattle.isolation.specs.Views.{Meets, clashes, free, sizeIn}
 use Rattle.isolation.proofs.GivenLaws.{began-trace}
 use Rattle.isolation.proofs.KeptLaws.{Kept, Ready}
-use Rattle.isolation.proofs.WroteLaws.{Judged, passed, stopped, sizeIn, write-judged}
+use Rattle.isolation.proofs.WroteLaws.{Judged, passed, stopped, write-judged}
 use Rattle.isolation.proofs.ShownLaws.{usable-in}
 use mathlib.Core.Logic.{inr}
 

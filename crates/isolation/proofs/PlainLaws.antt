@@ -1,30 +1,23 @@
 -- The unversioned set, commit and rollback keep the store's records. Assumes nothing.
-use Prim.Native.Nat.{ℕ, suc, _+_, _-_, _^_, _<_, _≤_}
+use Prim.Native.Nat.{ℕ, _+_, _-_}
 use mathlib.Core.Path.{_≡_, refl, sym, ap, _∙_, subst}
-use mathlib.Core.Bool.{Bool, true, false, not, _||_, cond}
-use mathlib.Core.List.{List, [], _∷_}
+use mathlib.Core.Bool.{Bool, true, false, not, cond}
+use mathlib.Core.List.{List, _∷_}
 use lib.Dec.{leb, eqb}
 use lib.ListN.{length}
 use borrow.Author.Tests.{leb-true, not-false}
-use Rattle.keycode.specs.Tests.{pick, ifDone}
+use Rattle.keycode.specs.Tests.{pick}
 use Rattle.keycode.specs.Limits.{maxKey}
-use Rattle.keycode.specs.Buffer.{put}
-use Rattle.keycode.specs.Refusals.{numberOf}
-use Rattle.keycode.specs.declared.refusal.Refusal.{Refusal}
 use Rattle.keycode.proofs.Basics.{nope}
 use Rattle.keys.specs.Keys.{txnActive}
-use Rattle.entry.specs.Entry.{Entry}
 use Rattle.keydir.specs.Place.{All}
-use Rattle.recovery.specs.declared.request.Used.{Used}
 use Rattle.recovery.specs.declared.request.Changed.{Changed}
 use Rattle.recovery.specs.declared.request.Changed.the-variants as Change
 use Rattle.recovery.specs.Map.{Pair}
 use Rattle.recovery.specs.Recover.{mapOf}
 use Rattle.recovery.specs.Agree.{fit, Agrees}
-use Rattle.recovery.specs.Promises.{changedNumber}
-use Rattle.bitcask.specs.declared.append.Check.{Check}
 use Rattle.bitcask.specs.declared.append.Check.the-variants.{Fine, Refused}
-use Rattle.bitcask.specs.Append.{sizeAll, bytesAll, afterAll}
+use Rattle.bitcask.specs.Append.{sizeAll, afterAll}
 use Rattle.handle.specs.declared.handle.Handle.{Handle}
 use Rattle.handle.specs.Handles.{soundHandle}
 use Rattle.txn.specs.Looks.{liveIn}
@@ -33,12 +26,11 @@ use Rattle.mvcc_write.specs.Writes.{plainPlan}
 use Rattle.mvcc_write.specs.Promises.{SetsPlain}
 use Rattle.mvcc_write.proofs.MapLaws.{plain-grow}
 use Rattle.mvcc_end.specs.Plans.{commitPlan, rollbackPlan}
-use Rattle.mvcc_end.specs.Promises.{Leaves, Commits, RollsBack}
+use Rattle.mvcc_end.specs.Promises.{Commits, RollsBack}
 use Rattle.history.specs.Store.{isSome}
 use Rattle.history.specs.Records.{Map, plainRec, look, put as putRecord, Sorted}
 use Rattle.history.specs.Calls.{commitMap, rollbackMap}
-use Rattle.history.specs.Run.{Entry as Event, commitE, rollbackE, otherE, Trace, usable, do-plain, do-other, do-commit, do-rollback}
-use Rattle.history.specs.Run as H
+use Rattle.history.specs.Run.{usable, do-plain, do-commit, do-rollback}
 use Rattle.history.proofs.RunLaws.{run-sorted}
 use Rattle.records.specs.Stored.{pairsIn, keyOrder, Fine as FineRecord, sightOf}
 use Rattle.records.proofs.OrderLaws.{order}
@@ -46,9 +38,9 @@ use Rattle.records.proofs.PlanLaws.{plain-pairs}
 use Rattle.records.proofs.EndLaws.{commit-pairs, rollback-pairs, commit-none, rollback-none}
 use Rattle.records.proofs.FineLaws.{fine-plain, fine-commit, fine-rollback}
 use Rattle.records.proofs.ReadLaws.{open-pairs}
-use Rattle.isolation.specs.World.{World, Call, Calls, setsPlain, commits, rollsBack, changedTo, Given, entryOf, traceOf}
+use Rattle.isolation.specs.World.{World, Calls, setsPlain, commits, rollsBack, changedTo, Given, traceOf}
 use Rattle.isolation.proofs.GivenLaws.{given-trace}
-use Rattle.isolation.proofs.EndedLaws.{Ended, admits, commit-ended, rollback-ended}
+use Rattle.isolation.proofs.EndedLaws.{admits, commit-ended, rollback-ended}
 use Rattle.isolation.proofs.KeptLaws.{Sound, Kept, Ready, given-cases, kept-refused, refused-same}
 use Rattle.isolation.proofs.WroteLaws.{own-version}
 

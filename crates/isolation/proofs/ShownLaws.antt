@@ -1,19 +1,18 @@
 -- Theorem: what a get shows. Assumes nothing.
-use Prim.Native.Nat.{ℕ, _^_, _<_, _≤_}
+use Prim.Native.Nat.{_≤_}
 use mathlib.Core.Path.{_≡_, refl, sym, ap, _∙_, subst}
 use mathlib.Core.Bool.{Bool, true, false, _||_}
-use mathlib.Core.Option.{Option, none, some}
-use mathlib.Core.Logic.{_⊎_, inl, inr}
-use mathlib.Core.List.{List, _∷_}
+use mathlib.Core.Option.{Option, some}
+use mathlib.Core.Logic.{inl, inr}
+use mathlib.Core.List.{List}
 use lib.Dec.{leb}
-use lib.ListN.{length, take, drop}
+use lib.ListN.{length}
 use borrow.Author.Tests.{le-leb}
 use Rattle.keycode.specs.Tests.{pick}
 use Rattle.keycode.specs.Limits.{maxKey}
-use Rattle.keycode.specs.declared.refusal.Refusal.the-variants.{Absent, KeyTooLong, BadStore}
+use Rattle.keycode.specs.declared.refusal.Refusal.the-variants.{Absent, KeyTooLong}
 use Rattle.keycode.specs.declared.parts.Part.{Part}
 use Rattle.keycode.proofs.Basics.{nope}
-use Rattle.keys.specs.Keys.{txnActive}
 use Rattle.recovery.specs.Map.{Pair}
 use Rattle.recovery.specs.Recover.{recovered, mapOf}
 use Rattle.recovery.specs.Agree.{fit}
@@ -29,9 +28,8 @@ use Rattle.mvcc_read.specs.declared.seen.Seen.the-variants.{Hidden, Gone, Bad, 
 use Rattle.mvcc_read.specs.Seen.{lastSeen, locatedSeen, versionTest, valueFor}
 use Rattle.mvcc_read.specs.Promises.{checked, getAnswer, Gets}
 use Rattle.mvcc_read.proofs.ShowLaws.{get-shows, get-none, get-broken}
-use Rattle.history.specs.History.{Key, Bytes, opened, isOpen, status}
-use Rattle.history.specs.Store.{isSome}
-use Rattle.history.specs.Records.{Map, look, Sorted}
+use Rattle.history.specs.History.{Key, Bytes, isOpen}
+use Rattle.history.specs.Records.{Map, Sorted}
 use Rattle.history.specs.Calls.{shown}
 use Rattle.history.specs.Run.{usable}
 use Rattle.history.proofs.RunLaws.{run-sorted, run-open, get-writer, get-reader, get-asOf, get-asOf-0}
@@ -39,7 +37,7 @@ use Rattle.records.specs.Stored.{keyOrder, sightOf}
 use Rattle.records.proofs.OrderLaws.{order}
 use Rattle.records.proofs.ReadLaws.{open-pairs}
 use Rattle.records.proofs.SeenLaws.{value-pairs}
-use Rattle.isolation.specs.World.{World, Calls, Given, by-begin, by-reading, by-asOf, traceOf, meaning}
+use Rattle.isolation.specs.World.{World, Calls, Given, by-begin, by-reading, by-asOf}
 use Rattle.isolation.specs.Views.{Usable, Sees, writer, reader, asOf, asOfNone, Shows}
 use Rattle.isolation.proofs.GivenLaws.{began-trace, read-trace, as-of-trace}
 use Rattle.isolation.proofs.KeptLaws.{Sound, Kept, Ready}

@@ -4,8 +4,7 @@ use Prim.Native.Nat.{ℕ, suc, _+_, _-_, _^_, _<_, _≤_}
 use mathlib.Core.Path.{_≡_, refl, sym, ap, _∙_, subst}
 use mathlib.Core.Bool.{Bool, true, false, not}
 use mathlib.Core.Option.{Option, none, some}
-use mathlib.Core.Logic.{_⊎_, inl, inr}
-use mathlib.Core.List.{List, [], _∷_}
+use mathlib.Core.List.{List, _∷_}
 use native.Mathlib.Decide.{decLe}
 use native.Mathlib.Omega.{arith}
 use lib.Dec.{leb, ltb}
@@ -42,16 +41,17 @@ use Rattle.history.specs.History.{Key, Bytes, Sight}
 use Rattle.history.specs.Store.{isSome}
 use Rattle.history.specs.Records.{Map, look, Sorted}
 use Rattle.history.specs.Calls.{conflict, writeMap}
-use Rattle.history.specs.Run.{Entry as Event, writeE, Trace, tooLong, writeNumber, do-write, do-noroom}
+use Rattle.history.specs.Run.{writeE, tooLong, writeNumber, do-write, do-noroom}
 use Rattle.history.specs.Run as H
 use Rattle.history.proofs.RunLaws.{run-sorted}
-use Rattle.records.specs.Stored.{pairsIn, keyOrder, sightOf}
+use Rattle.records.specs.Stored.{keyOrder, sightOf}
 use Rattle.records.proofs.OrderLaws.{order}
 use Rattle.records.proofs.PlanLaws.{write-pairs}
 use Rattle.records.proofs.FineLaws.{fine-write}
 use Rattle.records.proofs.ReadLaws.{open-pairs}
 use Rattle.records.proofs.SearchLaws.{search-pairs}
-use Rattle.isolation.specs.World.{World, Call, begins, beginsReading, beginsAsOf, Calls, changedTo, Given, entryOf, traceOf}
+use Rattle.isolation.specs.World.{World, Call, Calls, changedTo, Given, entryOf, traceOf}
+use Rattle.isolation.specs.Views.{sizeIn}
 use Rattle.isolation.proofs.GivenLaws.{given-trace}
 use Rattle.isolation.proofs.KeptLaws.{Sound, Kept, Ready, agrees-at, refused-same}
 
@@ -78,11 +78,6 @@ not-short n = go (decLe n 64)
     go : Dec (n ≤ 64) → ltb 64 n ≡ not (leb n maxKey)
     go (yes h) = rw (le-ltb 64 n h, le-leb n maxKey h)
     go (no h) = let l : 64 < n = omega arith in rw (lt-ltb 64 n l, lt-leb n maxKey l)
-
--- the bytes of the user's in a payload
-abbrev pub sizeIn : Option Bytes → ℕ
-sizeIn none = 0
-sizeIn (some v) = length v
 
 not-small : (o : Option Bytes) → tooLong o ≡ not (leb (sizeIn o) maxValue)
 not-small none = refl

@@ -6,7 +6,7 @@ use mathlib.Core.Bool.{true}
 use mathlib.Core.Option.{Option, none, some}
 use mathlib.Core.Logic.{_≢_, _⊎_}
 use mathlib.Core.List.{List, _∷_}
-use lib.ListN.{take, drop}
+use lib.ListN.{length, take, drop}
 use Rattle.keycode.specs.declared.refusal.Refusal.the-variants.{Absent, Conflict}
 use Rattle.keycode.specs.declared.parts.Part.{Part}
 use Rattle.recovery.specs.declared.request.Changed.{Changed}
@@ -42,3 +42,8 @@ Shows log r (some v) = (p : Part) × (r ≡ Got.At p) × (take (p .len) (drop (p
 pub data Meets (T : Calls) (h : Handle) (k : Key) (room r : Changed) : Type 0 where
   clashes : Clash (meaning T) (h .version) k → r ≡ Change.Refused Conflict → Meets T h k room r
   free : (Clash (meaning T) (h .version) k → ⊥) → r ≡ room → Meets T h k room r
+
+-- the bytes of the user's in what a write lays down; none deletes
+abbrev pub sizeIn : Option Bytes → ℕ
+sizeIn none = 0
+sizeIn (some v) = length v

@@ -1,0 +1,100 @@
+-- Snapshot isolation: the theorems, over every run of the store by what its public calls state. Each names the world that the run has
+-- come to, and a call that the contract admits there; what it says is read off the calls and the numbers answered alone. The definitions
+-- are in specs/World (runs), specs/Views (what a handle is to see) and history's specs/History (open, committed, laid down). Assumes
+-- nothing.
+use Prim.Native.Nat.{ℕ, _≤_, _%_}
+use mathlib.Core.Path.{_≡_, refl}
+use mathlib.Core.Bool.{Bool, true}
+use mathlib.Core.Option.{Option}
+use mathlib.Core.Logic.{_≢_, _⊎_}
+use mathlib.Core.List.{List, _∷_}
+use lib.ListN.{length}
+use Rattle.keycode.specs.Limits.{maxKey, maxValue, maxLog}
+use Rattle.keycode.specs.declared.refusal.Refusal.the-variants.{NotOpen, NoSuchVersion}
+use Rattle.keydir.specs.Slots.{slotWords}
+use Rattle.recovery.specs.declared.request.Changed.{Changed}
+use Rattle.recovery.specs.declared.request.Changed.the-variants as Change
+use Rattle.recovery.specs.Agree.{Agrees}
+use Rattle.recovery.specs.Promises.{changedNumber, Opens}
+use Rattle.recovery.proofs.OpenLaws.{open-empty}
+use Rattle.bitcask.specs.declared.answers.Located.{Located}
+use Rattle.bitcask.specs.declared.answers.Located.the-variants as Got
+use Rattle.bitcask.specs.declared.answers.Stepped.{Stepped}
+use Rattle.bitcask.specs.declared.answers.Stepped.the-variants as Step
+use Rattle.bitcask.specs.Append.{appendAnswer}
+use Rattle.handle.specs.declared.handle.Handle.{Handle}
+use Rattle.handle.specs.Payloads.{valueBytes}
+use Rattle.txn.specs.declared.begun.Begun.{Begun}
+use Rattle.txn.specs.Given.{refusedBy}
+use Rattle.mvcc_begin.specs.Promises.{Begins, BeginsReading, BeginsAsOf}
+use Rattle.mvcc_read.specs.Promises.{Gets, Resumes}
+use Rattle.mvcc_write.specs.Writes.{plan}
+use Rattle.mvcc_write.specs.Promises.{Writes}
+use Rattle.mvcc_scan.specs.Promises.{Scanning}
+use Rattle.mvcc_end.specs.Promises.{Commits, RollsBack}
+use Rattle.history.specs.History.{Key, Bytes, After, unborn, opened, status}
+use Rattle.isolation.specs.World.{World, Calls, begins, Gave, Run, meaning}
+use Rattle.isolation.specs.Views.{Usable, Sees, Shows, Meets, sizeIn}
+use Rattle.isolation.proofs.HoldLaws.{run-holds}
+use Rattle.isolation.proofs.ShownLaws.{got-shows}
+use Rattle.isolation.proofs.MeetLaws.{write-meets}
+use Rattle.isolation.proofs.OverLaws.{ended-gets, ended-scans, ended-resumes, ended-writes, ended-commits, ended-rolls}
+use Rattle.isolation.proofs.AnswerLaws.{begins-not, readings-not, as-of-began, as-of-else}
+
+-- S1. The first opening, of a buffer of any bytes of which nothing is used and with any table, is done, if the sizes are right.
+pub first-opens : {log t t′ : List ℕ} {r : Changed} → Opens log 0 t r t′ → length log ≤ maxLog → length t % slotWords ≡ 0 → r ≡ Change.Done (record { len = 0 })
+first-opens o h k = open-empty o h k .0
+
+module _ {w : World} {T : Calls} (R : Run true w T) where
+  -- S2, S4. Whatever calls were made, the table agrees with the log after each.
+  pub run-agrees : Agrees (w .log) (w .used) (w .table)
+  run-agrees = run-holds R .ready refl
+
+  -- S5, S6. A get with a handle that may be used, of a key within the limit, shows exactly what the handle is to see: 0 with that value,
+  -- or 1 where there is none, and no other number.
+  pub get-shows : {h : Handle} {f : Key → Option Bytes} → Sees T h f → Usable T h → {k : Key} → length k ≤ maxKey → {r : Located} → Gets (w .log) (w .used) (w .table) h k r
+      → Shows (w .log) r (f k)
+  get-shows s u l b = got-shows (run-holds R .kept) run-agrees s u l b
+
+  -- S6. An as-of answers 0 exactly for 0 and for a version that began, and else 10.
+  pub as-of-answers : {v : ℕ} {r : Begun} → (v ≡ 0) ⊎ (status (meaning T) v ≢ unborn) → BeginsAsOf (w .log) (w .used) (w .table) v r → changedNumber (r .answer) ≡ 0
+  as-of-answers c b = as-of-began (run-holds R .kept) run-agrees c b
+
+  pub as-of-refused : {v : ℕ} {r : Begun} → v ≢ 0 → status (meaning T) v ≡ unborn → BeginsAsOf (w .log) (w .used) (w .table) v r → r ≡ refusedBy NoSuchVersion
+  as-of-refused n u b = as-of-else (run-holds R .kept) run-agrees n u b
+
+  -- 12 is no begin's answer; of the other calls the theorems here say all numbers.
+  pub begin-sound : {r : Begun} {log t : List ℕ} → Begins (w .log) (w .used) (w .table) r log t → changedNumber (r .answer) ≢ 12
+  begin-sound b = begins-not (run-holds R .kept) run-agrees b
+
+  pub reading-sound : {r : Begun} → BeginsReading (w .log) (w .used) (w .table) r → changedNumber (r .answer) ≢ 12
+  reading-sound b = readings-not (run-holds R .kept) run-agrees b
+
+  -- of a transaction that a begin gave the handle of
+  module _ {T₁ : Calls} {x : Begun} {h : Handle} (f : After (begins x ∷ T₁) T) (g : Gave x h) where
+    -- S7. A write while it is open, key and value within the limits: 6 exactly where another transaction has an accepted write of the key
+    -- and is open, or committed after this one began; else 0, 7 or 8 as the room says.
+    pub write-conflicts : status (meaning T) (h .version) ≡ opened → {k : Key} → length k ≤ maxKey → (o : Option Bytes) → sizeIn o ≤ maxValue → {r : Changed} {log t : List ℕ}
+        → Writes (w .log) (w .used) (w .table) h k (valueBytes o) (sizeIn o) r log t
+        → Meets T h k (appendAnswer (w .log) (w .used) (length (w .table)) (plan (h .version) k (valueBytes o))) r
+    write-conflicts is l o v b = write-meets (run-holds R .kept) run-agrees f g is l o v b
+
+    -- S3, S8. Once it has ended, by a commit or a rollback answered 0, every call with its handle answers 3.
+    module _ (over : status (meaning T) (h .version) ≢ opened) where
+      pub over-gets : {k : List ℕ} {r : Located} → Gets (w .log) (w .used) (w .table) h k r → r ≡ Got.Refused NotOpen
+      over-gets b = ended-gets (run-holds R .kept) run-agrees f g over b
+
+      pub over-scans : {short : Bool} {test : List ℕ → Bool} {r : Stepped} → Scanning (w .log) (w .used) (w .table) h short test r → r ≡ Step.Refused NotOpen
+      over-scans b = ended-scans (run-holds R .kept) run-agrees f g over b
+
+      pub over-resumes : {r : Begun} → Resumes (w .log) (w .used) (w .table) h r → r ≡ refusedBy NotOpen
+      over-resumes b = ended-resumes (run-holds R .kept) run-agrees f g over b
+
+      pub over-writes : {k payload : List ℕ} {size : ℕ} {r : Changed} {log t : List ℕ} → Writes (w .log) (w .used) (w .table) h k payload size r log t → r ≡ Change.Refused NotOpen
+      over-writes b = ended-writes (run-holds R .kept) run-agrees f g over b
+
+      pub over-commits : {r : Changed} {log t : List ℕ} → Commits (w .log) (w .used) (w .table) h r log t → r ≡ Change.Refused NotOpen
+      over-commits b = ended-commits (run-holds R .kept) run-agrees f g over b
+
+      pub over-rolls : {r : Changed} {log t : List ℕ} → RollsBack (w .log) (w .used) (w .table) h r log t → r ≡ Change.Refused NotOpen
+      over-rolls b = ended-rolls (run-holds R .kept) run-agrees f g over b

