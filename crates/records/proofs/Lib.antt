@@ -5,3 +5,5 @@ pub mod RangeLaws
 pub mod SeenLaws
 pub mod SearchLaws
 pub mod ReadLaws
+pub mod StepLaws
+pub mod ScanLaws
