@@ -54,7 +54,7 @@ module _ {cmp : Fields → Fields → Ordering} (L : Order cmp) where
       go Ordering·eq q i = look-past r m n ∙ sym (look-past e m (λ z. n (L .same (keyOf r) (keyOf e) q ∙ z)))
       go Ordering·gt q i = by-cases (fields≟ (keyOf e) K) (λ z. rw (← z) (look-here e (put cmp r m) ∙ sym (look-here e m))) (λ z. look-past e (put cmp r m) z ∙ i ∙ sym (look-past e m z))
 
-  above-trans : (K J : Fields) → cmp K J ≡ Ordering·lt → {m : Map} → Above cmp J m → Above cmp K m
+  pub above-trans : (K J : Fields) → cmp K J ≡ Ordering·lt → {m : Map} → Above cmp J m → Above cmp K m
   above-trans K J l above-nil = above-nil
   above-trans K J l (above-cons {r = r} q a) = above-cons (L .trans K J (keyOf r) l q) (above-trans K J l a)
 

@@ -51,17 +51,24 @@ num-after a (x ∷ xs) =
     ∙ rw (num-after (0 * 256 + x) xs)
     (simp (zero-mul, zero-add, pow-succ', add-mul, mul-assoc, add-assoc))
 
+num-digits : (a k v : ℕ) → numFrom (a * 256 + v / 256 ^ k) (be k (v % 256 ^ k)) ≡ (a * 256 + v / 256 ^ k) * 256 ^ k + v % 256 ^ k → numFrom a (be (suc k) v) ≡ a * 256 ^ suc k + v
+unfolding numFrom be
+num-digits a k v ih = ih ∙ simp (pow-succ', add-mul, mul-assoc, add-assoc, div-add-mod' v (256 ^ k))
+
 num-from-be : (a k v : ℕ) → v < 256 ^ k → numFrom a (be k v) ≡ a * 256 ^ k + v
 unfolding numFrom be
 num-from-be a zero v h = simp (pow-zero, mul-one) (omega (arith, rw pow-zero at h))
-num-from-be a (suc k) v h =
-    num-from-be (a * 256 + v / 256 ^ k) k (v % 256 ^ k) (mod-lt v (power-pos k))
-    ∙ simp (pow-succ', add-mul, mul-assoc, add-assoc, div-add-mod' v (256 ^ k))
+num-from-be a (suc k) v h = num-digits a k v (num-from-be (a * 256 + v / 256 ^ k) k (v % 256 ^ k) (mod-lt v (power-pos k)))
 
 -- a number's bytes are the number
 pub num-be : (k v : ℕ) → v < 256 ^ k → num (be k v) ≡ v
 unfolding num
 num-be k v h = num-from-be 0 k v h ∙ simp (zero-mul, zero-add)
+
+-- the first byte is not cut, so that one byte and more hold any number
+pub num-any : (k v : ℕ) → num (be (suc k) v) ≡ v
+unfolding num
+num-any k v = num-digits 0 k v (num-from-be (0 * 256 + v / 256 ^ k) k (v % 256 ^ k) (mod-lt v (power-pos k))) ∙ simp (zero-mul, zero-add)
 
 pub num-bound : (xs : List ℕ) → Bytes xs → num xs < 256 ^ length xs
 unfolding num numFrom
@@ -101,11 +108,20 @@ nat-digits m v w p = go (ordered (v / m) (w / m)) (ordered (v % m) (w % m))
         let q : v / m * m ≡ w / m * m = ap (λ (x : ℕ). x * m) e in
         nat-greater v w (omega (arith, div-add-mod' v m, div-add-mod' w m)) ∙ rw (nat-equal (v / m) (w / m) e, nat-greater (v % m) (w % m) h)
 
+-- a digit more, of any numbers: the first byte is not cut
+compare-digit : (k v w : ℕ) (s t : List ℕ) → compareBytes (be k (v % 256 ^ k) ++ s) (be k (w % 256 ^ k) ++ t) ≡ andThen (compareNat (v % 256 ^ k) (w % 256 ^ k)) (compareBytes s t)
+    → compareBytes (be (suc k) v ++ s) (be (suc k) w ++ t) ≡ andThen (compareNat v w) (compareBytes s t)
+unfolding be compareBytes
+compare-digit k v w s t ih = rw (ih, nat-digits (256 ^ k) v w (power-pos k), andThen-assoc)
+
 pub compare-be : (k v w : ℕ) (s t : List ℕ) → v < 256 ^ k → w < 256 ^ k → compareBytes (be k v ++ s) (be k w ++ t) ≡ andThen (compareNat v w) (compareBytes s t)
 unfolding be compareBytes
 compare-be zero v w s t h g = let e : v ≡ w = omega (arith, rw pow-zero at h, rw pow-zero at g) in rw (nat-equal v w e)
-compare-be (suc k) v w s t h g =
-    rw (compare-be k (v % 256 ^ k) (w % 256 ^ k) s t (mod-lt v (power-pos k)) (mod-lt w (power-pos k)), nat-digits (256 ^ k) v w (power-pos k), andThen-assoc)
+compare-be (suc k) v w s t h g = compare-digit k v w s t (compare-be k (v % 256 ^ k) (w % 256 ^ k) s t (mod-lt v (power-pos k)) (mod-lt w (power-pos k)))
+
+-- one byte and more sort as any numbers do
+pub compare-any : (k v w : ℕ) (s t : List ℕ) → compareBytes (be (suc k) v ++ s) (be (suc k) w ++ t) ≡ andThen (compareNat v w) (compareBytes s t)
+compare-any k v w s t = compare-digit k v w s t (compare-be k (v % 256 ^ k) (w % 256 ^ k) s t (mod-lt v (power-pos k)) (mod-lt w (power-pos k)))
 
 -- ---- the loop that writes, from the last byte to the first
 

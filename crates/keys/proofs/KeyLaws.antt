@@ -24,7 +24,7 @@ use Rattle.keycode.specs.Number.{be, num}
 use Rattle.keycode.specs.Strings.{escapeBody, escape, unescaped, scanned, fault}
 use Rattle.keys.specs.Keys.{Fields, nextVersion, txnActive, txnActiveSnapshot, txnWrite, version, unversioned, tagOf, encode, userKey, exactly, stringAt, onEnded, keyOf, decodeWhy, forget, fieldsOf, placed}
 use Rattle.keycode.proofs.Basics.{nope}
-use Rattle.keycode.proofs.NumberLaws.{num-be, be-num, length-be, Bytes, bytes-take, bytes-drop}
+use Rattle.keycode.proofs.NumberLaws.{num-be, num-any, be-num, length-be, Bytes, bytes-take, bytes-drop}
 use Rattle.keycode.proofs.StringLaws.{escape-length, unescaped-body, scanned-body, scan-found, plain-byte}
 use Rattle.keys.proofs.DecodeLaws.{exactly-read}
 
@@ -255,14 +255,18 @@ parsed (suc (suc (suc zero)) ∷ r) = txnWrite (num (take 8 r)) (unescaped (drop
 parsed (suc (suc (suc (suc zero))) ∷ r) = version (unescaped r) (num (take 8 (drop (length (escape (unescaped r))) r)))
 parsed (suc (suc (suc (suc (suc t)))) ∷ r) = unversioned (unescaped r)
 
-parsed-encode : (k : Fields) (t : List ℕ) → Sound k → parsed (encode k ++ t) ≡ k
-unfolding parsed
-parsed-encode nextVersion t h = refl
-parsed-encode (txnActive v) t h = ap txnActive (eight v t h)
-parsed-encode (txnActiveSnapshot v) t h = ap txnActiveSnapshot (eight v t h)
-parsed-encode (txnWrite v s) t h = rw (append-assoc, eight v (escape s ++ t) h, drop-at (be 8 v) (escape s ++ t) 8 (length-be 8 v), unescaped-escape s t)
-parsed-encode (version s v) t h = rw (append-assoc, unescaped-escape s (be 8 v ++ t), drop-at (escape s) (be 8 v ++ t) (length (escape s)) refl, eight v t h)
-parsed-encode (unversioned s) t h = ap unversioned (unescaped-escape s t)
+-- eight bytes tell any number
+any-eight : (v : ℕ) (t : List ℕ) → num (take 8 (be 8 v ++ t)) ≡ v
+any-eight v t = rw (take-at (be 8 v) t 8 (length-be 8 v)) (num-any 7 v)
 
-pub no-prefix : (k j : Fields) (s t : List ℕ) → Sound k → Sound j → encode k ++ s ≡ encode j ++ t → k ≡ j
-no-prefix k j s t h g e = sym (parsed-encode k s h) ∙ ap parsed e ∙ parsed-encode j t g
+parsed-encode : (k : Fields) (t : List ℕ) → parsed (encode k ++ t) ≡ k
+unfolding parsed
+parsed-encode nextVersion t = refl
+parsed-encode (txnActive v) t = ap txnActive (any-eight v t)
+parsed-encode (txnActiveSnapshot v) t = ap txnActiveSnapshot (any-eight v t)
+parsed-encode (txnWrite v s) t = rw (append-assoc, any-eight v (escape s ++ t), drop-at (be 8 v) (escape s ++ t) 8 (length-be 8 v), unescaped-escape s t)
+parsed-encode (version s v) t = rw (append-assoc, unescaped-escape s (be 8 v ++ t), drop-at (escape s) (be 8 v ++ t) (length (escape s)) refl, any-eight v t)
+parsed-encode (unversioned s) t = ap unversioned (unescaped-escape s t)
+
+pub no-prefix : (k j : Fields) (s t : List ℕ) → encode k ++ s ≡ encode j ++ t → k ≡ j
+no-prefix k j s t e = sym (parsed-encode k s) ∙ ap parsed e ∙ parsed-encode j t

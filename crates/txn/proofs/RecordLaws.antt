@@ -1,5 +1,5 @@
 -- Which keys begin with the prefixes of records: those of a tag, and of a tag and a version. Assumes nothing.
-use Prim.Native.Nat.{ℕ, _^_, _<_}
+use Prim.Native.Nat.{ℕ}
 use mathlib.Core.Path.{_≡_, refl, sym, ap, _∙_}
 use mathlib.Core.Bool.{Bool, true, false}
 use mathlib.Core.List.{List, [], _∷_, _++_}
@@ -11,8 +11,7 @@ use Rattle.keycode.specs.Tests.{pick}
 use Rattle.keycode.specs.Number.{be, num}
 use Rattle.keys.specs.Keys.{Fields, nextVersion, txnActive, txnActiveSnapshot, txnWrite, version, unversioned, tagOf, encode}
 use Rattle.keycode.specs.Strings.{escape}
-use Rattle.keycode.proofs.NumberLaws.{length-be, num-be}
-use Rattle.keys.proofs.KeyLaws.{Sound}
+use Rattle.keycode.proofs.NumberLaws.{length-be, num-any}
 use Rattle.txn.specs.Ranges.{begins, writePrefix}
 use Rattle.txn.proofs.RangeLaws.{begins-append, begins-split, same-tests}
 
@@ -26,14 +25,14 @@ tag-begins t k = go (eqb (tagOf k) t)
     go false = refl
 
 -- the front of two runs whose first eight bytes are numbers
-number-front : (v w : ℕ) (s t : List ℕ) → v < 256 ^ 8 → w < 256 ^ 8 → be 8 w ++ s ≡ be 8 v ++ t → w ≡ v
-number-front v w s t h k e =
-    sym (num-be 8 w k) ∙ ap num (sym (take-at (be 8 w) s 8 (length-be 8 w)) ∙ ap (take 8) e ∙ take-at (be 8 v) t 8 (length-be 8 v)) ∙ num-be 8 v h
+number-front : (v w : ℕ) (s t : List ℕ) → be 8 w ++ s ≡ be 8 v ++ t → w ≡ v
+number-front v w s t e =
+    sym (num-any 7 w) ∙ ap num (sym (take-at (be 8 w) s 8 (length-be 8 w)) ∙ ap (take 8) e ∙ take-at (be 8 v) t 8 (length-be 8 v)) ∙ num-any 7 v
 
-number-begins : (v w : ℕ) (s : List ℕ) → v < 256 ^ 8 → w < 256 ^ 8 → begins (be 8 v) (be 8 w ++ s) ≡ eqb w v
-number-begins v w s h k =
+number-begins : (v w : ℕ) (s : List ℕ) → begins (be 8 v) (be 8 w ++ s) ≡ eqb w v
+number-begins v w s =
     same-tests (begins (be 8 v) (be 8 w ++ s)) (eqb w v)
-    (λ e. let r = begins-split (be 8 v) (be 8 w ++ s) e in eq-eqb w v (number-front v w s (r .0) h k (r .1)))
+    (λ e. let r = begins-split (be 8 v) (be 8 w ++ s) e in eq-eqb w v (number-front v w s (r .0) (r .1)))
     (λ e. ap (λ (x : ℕ). begins (be 8 v) (be 8 x ++ s)) (eqb-true w v e) ∙ begins-append (be 8 v) s)
 
 -- whether a key is that of a write of v
@@ -45,11 +44,11 @@ writtenBy v (txnWrite w s) = eqb w v
 writtenBy v (version s w) = false
 writtenBy v (unversioned s) = false
 
-pub write-begins : (v : ℕ) (k : Fields) → v < 256 ^ 8 → Sound k → begins (writePrefix v) (encode k) ≡ writtenBy v k
+pub write-begins : (v : ℕ) (k : Fields) → begins (writePrefix v) (encode k) ≡ writtenBy v k
 unfolding begins
-write-begins v nextVersion h k = refl
-write-begins v (txnActive w) h k = refl
-write-begins v (txnActiveSnapshot w) h k = refl
-write-begins v (txnWrite w s) h k = number-begins v w (escape s) h k
-write-begins v (version s w) h k = refl
-write-begins v (unversioned s) h k = refl
+write-begins v nextVersion = refl
+write-begins v (txnActive w) = refl
+write-begins v (txnActiveSnapshot w) = refl
+write-begins v (txnWrite w s) = number-begins v w (escape s)
+write-begins v (version s w) = refl
+write-begins v (unversioned s) = refl
