@@ -1,6 +1,6 @@
 -- The two scan steps of a map of records, by their bounds and by a prefix; and what the first key is in the order of the bytes.
 -- Assumes nothing.
-use Prim.Native.Nat.{ℕ, zero, suc, _<_, Ordering·lt}
+use Prim.Native.Nat.{ℕ, zero, suc, _<_}
 use mathlib.Core.Path.{_≡_, refl, sym, ap, _∙_}
 use mathlib.Core.Bool.{Bool, true, false}
 use mathlib.Core.Logic.{_≢_}
@@ -10,8 +10,7 @@ use native.Mathlib.Omega.{arith}
 use Rattle.keycode.specs.Tests.{pick}
 use Rattle.keycode.specs.Strings.{escapeByte, escapeBody, escape}
 use Rattle.keycode.specs.Order.{compareNat, compareBytes}
-use Rattle.keycode.specs.declared.order.Order.{Order}
-use Rattle.keycode.specs.declared.order.Order.the-variants.{Less, Equal, Greater}
+use Rattle.keycode.specs.declared.order.Order.the-variants.{Less}
 use Rattle.keycode.proofs.Basics.{nope}
 use Rattle.keycode.proofs.OrderLaws.{andThen-equal, compare-flip, compare-refl}
 use Rattle.keys.specs.Keys.{Fields, nextVersion, txnActive, txnActiveSnapshot, txnWrite, version, unversioned, tagOf, encode}
@@ -29,8 +28,9 @@ use Rattle.history.specs.History.{Key, Bytes}
 use Rattle.history.specs.Records.{Map, Before}
 use Rattle.history.specs.Calls.{scanStep}
 use Rattle.history.proofs.StepLaws.{Step, at-end, at-key}
-use Rattle.records.specs.Stored.{pairsIn, orderingOf, keyOrder, Fine, sightOf}
+use Rattle.records.specs.Stored.{pairsIn, keyOrder, Fine, sightOf}
 use Rattle.records.specs.Scans.{ByUser, prefixPast, givenOf, First, none-shows, first-shows}
+use Rattle.records.proofs.OrderLaws.{key-less}
 use Rattle.records.proofs.StepLaws.{step-pairs}
 
 -- ---- other keys than Versions lie outside
@@ -92,13 +92,8 @@ module _ (prefix : List ℕ) (given : Bool) (last : List ℕ) where
 -- ---- first in the order of the bytes
 
 before-less : (k j : Key) → Before keyOrder k j → compareBytes k j ≡ Less
-unfolding Before keyOrder compareNat
-before-less k j b = go (compareBytes k j) (ap orderingOf (sym (order-version k j 0 0 (omega arith) (omega arith) ∙ andThen-equal (compareBytes k j))) ∙ b 0 0)
-  where
-    go : (o : Order) → orderingOf o ≡ Ordering·lt → o ≡ Less
-    go Less e = refl
-    go Equal e = nope (cc)
-    go Greater e = nope (cc)
+unfolding Before compareNat
+before-less k j b = sym (order-version k j 0 0 (omega arith) (omega arith) ∙ andThen-equal (compareBytes k j)) ∙ key-less (version k 0) (version j 0) (b 0 0)
 
 pub step-first : {f : Key → Option Bytes} {p : Key → Bool} {r : Option (Key × Bytes)} → Step keyOrder f p r → First f p r
 step-first (at-end e a) = none-shows e a
