@@ -2,3 +2,4 @@
 pub mod GivenLaws
 pub mod EndedLaws
 pub mod KeptLaws
+pub mod ScanLaws
