@@ -17,10 +17,12 @@ use Rattle.recovery.specs.declared.request.Changed.the-variants as Change
 use Rattle.recovery.specs.Agree.{Agrees}
 use Rattle.recovery.specs.Promises.{changedNumber, Opens}
 use Rattle.recovery.proofs.OpenLaws.{open-empty}
+use Rattle.bitcask.specs.declared.answers.Bound.{Bound}
 use Rattle.bitcask.specs.declared.answers.Located.{Located}
 use Rattle.bitcask.specs.declared.answers.Located.the-variants as Got
 use Rattle.bitcask.specs.declared.answers.Stepped.{Stepped}
 use Rattle.bitcask.specs.declared.answers.Stepped.the-variants as Step
+use Rattle.bitcask.specs.Ranks.{admitted}
 use Rattle.bitcask.specs.Append.{appendAnswer}
 use Rattle.handle.specs.declared.handle.Handle.{Handle}
 use Rattle.handle.specs.Payloads.{valueBytes}
@@ -30,13 +32,17 @@ use Rattle.mvcc_begin.specs.Promises.{Begins, BeginsReading, BeginsAsOf}
 use Rattle.mvcc_read.specs.Promises.{Gets, Resumes}
 use Rattle.mvcc_write.specs.Writes.{plan}
 use Rattle.mvcc_write.specs.Promises.{Writes}
-use Rattle.mvcc_scan.specs.Promises.{Scanning}
+use Rattle.mvcc_scan.specs.Bounds.{keysFit, prefixFits}
+use Rattle.mvcc_scan.specs.Promises.{Scanning, Scans, ScansPrefix}
 use Rattle.mvcc_end.specs.Promises.{Commits, RollsBack}
 use Rattle.history.specs.History.{Key, Bytes, After, unborn, opened, status}
+use Rattle.records.specs.Scans.{prefixPast}
 use Rattle.isolation.specs.World.{World, Calls, begins, Gave, Run, meaning}
 use Rattle.isolation.specs.Views.{Usable, Sees, Shows, Meets, sizeIn}
+use Rattle.isolation.specs.Shown.{ShowsFirst}
 use Rattle.isolation.proofs.HoldLaws.{run-holds}
-use Rattle.isolation.proofs.ShownLaws.{got-shows}
+use Rattle.isolation.proofs.ShownLaws.{sees-given, usable-in, sees-shown, got-shows}
+use Rattle.isolation.proofs.ScanLaws.{scan-shown, prefix-shown, shows-same}
 use Rattle.isolation.proofs.MeetLaws.{write-meets}
 use Rattle.isolation.proofs.OverLaws.{ended-gets, ended-scans, ended-resumes, ended-writes, ended-commits, ended-rolls}
 use Rattle.isolation.proofs.AnswerLaws.{begins-not, readings-not, as-of-began, as-of-else}
@@ -55,6 +61,21 @@ module _ {w : World} {T : Calls} (R : Run true w T) where
   pub get-shows : {h : Handle} {f : Key → Option Bytes} → Sees T h f → Usable T h → {k : Key} → length k ≤ maxKey → {r : Located} → Gets (w .log) (w .used) (w .table) h k r
       → Shows (w .log) r (f k)
   get-shows s u l b = got-shows (run-holds R .kept) run-agrees s u l b
+
+  -- A scan step alike, with any bounds or prefix and any last key within the limit: the first key in bounds and past the last one that shows
+  -- a value, with that value, or 1 where there is none, and no other number.
+  pub scan-shows : {h : Handle} {f : Key → Option Bytes} → Sees T h f → Usable T h → (lower : Bound) (low : Key) (upper : Bound) (high : Key) (given : Bool) (last : Key)
+      → keysFit lower low upper high given last ≡ true → {r : Stepped} → Scans (w .log) (w .used) (w .table) h lower low upper high given last r
+      → ShowsFirst f (admitted lower low upper high given last) (w .log) r
+  scan-shows {h} s u lower low upper high given last l b =
+      let K = run-holds R .kept in
+      shows-same (sees-shown K s u) (scan-shown K run-agrees (K .handles h (sees-given s)) (usable-in K h u) lower low upper high given last b l)
+
+  pub prefix-shows : {h : Handle} {f : Key → Option Bytes} → Sees T h f → Usable T h → (prefix : Key) (given : Bool) (last : Key) → prefixFits prefix given last ≡ true → {r : Stepped}
+      → ScansPrefix (w .log) (w .used) (w .table) h prefix given last r → ShowsFirst f (prefixPast prefix given last) (w .log) r
+  prefix-shows {h} s u prefix given last l b =
+      let K = run-holds R .kept in
+      shows-same (sees-shown K s u) (prefix-shown K run-agrees (K .handles h (sees-given s)) (usable-in K h u) prefix given last b l)
 
   -- S6. An as-of answers 0 exactly for 0 and for a version that began, and else 10.
   pub as-of-answers : {v : ℕ} {r : Begun} → (v ≡ 0) ⊎ (status (meaning T) v ≢ unborn) → BeginsAsOf (w .log) (w .used) (w .table) v r → changedNumber (r .answer) ≡ 0

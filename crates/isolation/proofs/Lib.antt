@@ -8,6 +8,7 @@ pub mod WroteLaws
 pub mod PlainLaws
 pub mod HoldLaws
 pub mod ShownLaws
+pub mod ScanLaws
 pub mod MeetLaws
 pub mod OverLaws
 pub mod AnswerLaws

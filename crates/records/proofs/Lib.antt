@@ -10,3 +10,5 @@ pub mod RangeLaws
 pub mod SeenLaws
 pub mod SearchLaws
 pub mod ReadLaws
+pub mod StepLaws
+pub mod ScanLaws

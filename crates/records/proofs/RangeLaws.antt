@@ -29,11 +29,11 @@ use Rattle.records.specs.Stored.{pairOf, pairsIn, Fine}
 -- ---- a map's records one by one
 
 module _ (p : List ℕ → Bool) (r : Rec) (m : Map) where
-  pairs-yes : p (encode (keyOf r)) ≡ true → pairsOf p (pairsIn (r ∷ m)) ≡ pairOf r ∷ pairsOf p (pairsIn m)
+  pub pairs-yes : p (encode (keyOf r)) ≡ true → pairsOf p (pairsIn (r ∷ m)) ≡ pairOf r ∷ pairsOf p (pairsIn m)
   unfolding pairsOf pairsIn
   pairs-yes e = rw e
 
-  pairs-no : p (encode (keyOf r)) ≡ false → pairsOf p (pairsIn (r ∷ m)) ≡ pairsOf p (pairsIn m)
+  pub pairs-no : p (encode (keyOf r)) ≡ false → pairsOf p (pairsIn (r ∷ m)) ≡ pairsOf p (pairsIn m)
   unfolding pairsOf pairsIn
   pairs-no e = rw e
 

@@ -54,7 +54,7 @@ said-shown : (z : Option Rec) → orGone (said z) ≡ some (flat (itemOf z))
 said-shown none = refl
 said-shown (some r) = refl
 
-last-cons : (r : Rec) (m : Map) → lastOf (r ∷ m) ≡ back (lastOf m) r
+pub last-cons : (r : Rec) (m : Map) → lastOf (r ∷ m) ≡ back (lastOf m) r
 unfolding lastOf
 last-cons r m = refl
 
