@@ -60,20 +60,6 @@ module _ {cmp : Fields → Fields → Ordering} (L : Order cmp) where
       go (yes q) true e (last-at x u i t l f) = last-at x u (rw i) t (look-past (verRec j v o) m (λ z. let n : v ≡ x = cc in omega (arith, less q x u l)) ∙ l) (λ y w c. look-past (verRec j v o) m (λ z. let n : v ≡ y = cc in omega (arith, less q x u l)) ∙ f y w c)
   last-is p k (sorted-cons {r = plainRec j b} {m = m} a s) = skip p k (plainRec j b) m _ (λ x t e. nope (cc)) (last-is p k s)
 
-pub no-item : (k : Key) (x : ℕ) (m : Map) → itemOf (look m (version k x)) ≡ none → look m (version k x) ≡ none
-unfolding look
-no-item k x [] e = refl
-no-item k x (r ∷ m) e = go r (fields≟ (keyOf r) (version k x)) e (no-item k x m)
-  where
-    go : (r : Rec) (d : Dec (keyOf r ≡ version k x)) → itemOf (ite d (some r) (look m (version k x))) ≡ none → (itemOf (look m (version k x)) ≡ none → look m (version k x) ≡ none) → ite d (some r) (look m (version k x)) ≡ none
-    go r (no n) i rec = rec i
-    go (nextRec n) (yes q) i rec = nope (cc)
-    go (activeRec v) (yes q) i rec = nope (cc)
-    go (snapRec v s) (yes q) i rec = nope (cc)
-    go (wroteRec v j) (yes q) i rec = nope (cc)
-    go (verRec j v o) (yes q) i rec = nope (cc)
-    go (plainRec j b) (yes q) i rec = nope (cc)
-
 -- what a scan for the last that passes finds is the top of the versions that pass
 pub last-top : (p : ℕ → Bool) (k : Key) (m : Map) (r : Option Rec) → LastIs p k m r → Top (λ x. keep (p x) ((view m) .vers k x)) (flat (itemOf r))
 last-top p k m r (last-none f i) = nowhere (λ x. go x (p x) refl) (rw i)

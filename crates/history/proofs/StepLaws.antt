@@ -87,8 +87,3 @@ scan-step {cmp} L {m} s h p = go (step-in L (shown m h) p s)
     go : {r : Option (Key × Bytes)} → StepIn cmp (shown m h) p m r → Step cmp (shown m h) p r
     go (in-end i a) = at-end i (λ k t. decide k (shown m h k) refl (a k t))
     go (in-key k v i t q a) = at-key k v i t q (λ j u n d. a j u (shown-has L s h j n) n d)
-
--- the same of any function that shows the same
-pub step-congr : {cmp : Fields → Fields → Ordering} {f f′ : Key → Option Bytes} {p : Key → Bool} {r : Option (Key × Bytes)} → ((k : Key) → f k ≡ f′ k) → Step cmp f p r → Step cmp f′ p r
-step-congr q (at-end i a) = at-end i (λ k t. sym (q k) ∙ a k t)
-step-congr q (at-key k v i t e a) = at-key k v i t (sym (q k) ∙ e) (λ j u n d. a j u (λ z. n (sym (q j) ∙ z)) d)

@@ -103,11 +103,6 @@ unfolding sizeAll
 size-append [] fs = omega arith
 size-append (e ∷ es) fs = omega (arith, size-append es fs)
 
-pub after-append : (es fs : List Entry) (m : List Pair) → afterAll (es ++ fs) m ≡ afterAll fs (afterAll es m)
-unfolding afterAll
-after-append [] fs m = refl
-after-append (e ∷ es) fs m = after-append es fs (after e m)
-
 -- ---- a table that agrees, and the code's count of its slots
 
 pub record Held (s : State) : Type 0 where

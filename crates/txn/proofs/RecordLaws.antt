@@ -1,28 +1,18 @@
 -- Which keys begin with the prefixes of records: those of a tag, and of a tag and a version. Assumes nothing.
 use Prim.Native.Nat.{ℕ}
 use mathlib.Core.Path.{_≡_, refl, sym, ap, _∙_}
-use mathlib.Core.Bool.{Bool, true, false}
-use mathlib.Core.List.{List, [], _∷_, _++_}
+use mathlib.Core.Bool.{Bool, false}
+use mathlib.Core.List.{List, _++_}
 use lib.Dec.{eqb}
 use lib.ListN.{take}
 use lib.Seq.{take-at}
 use borrow.Author.Tests.{eqb-true, eq-eqb}
-use Rattle.keycode.specs.Tests.{pick}
 use Rattle.keycode.specs.Number.{be, num}
-use Rattle.keys.specs.Keys.{Fields, nextVersion, txnActive, txnActiveSnapshot, txnWrite, version, unversioned, tagOf, encode}
+use Rattle.keys.specs.Keys.{Fields, nextVersion, txnActive, txnActiveSnapshot, txnWrite, version, unversioned, encode}
 use Rattle.keycode.specs.Strings.{escape}
 use Rattle.keycode.proofs.NumberLaws.{length-be, num-any}
 use Rattle.txn.specs.Ranges.{begins, writePrefix}
 use Rattle.txn.proofs.RangeLaws.{begins-append, begins-split, same-tests}
-
--- the keys of a tag
-pub tag-begins : (t : ℕ) (k : Fields) → begins (t ∷ []) (encode k) ≡ eqb (tagOf k) t
-unfolding begins
-tag-begins t k = go (eqb (tagOf k) t)
-  where
-    go : (b : Bool) → pick b true false ≡ b
-    go true = refl
-    go false = refl
 
 -- the front of two runs whose first eight bytes are numbers
 number-front : (v w : ℕ) (s t : List ℕ) → be 8 w ++ s ≡ be 8 v ++ t → w ≡ v
