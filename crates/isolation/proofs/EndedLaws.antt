@@ -49,12 +49,13 @@ done-fine (Change.Refused y) r e z = absurd (not-done y (sym (ap changedNumber e
 
 pub record Ended (log : List ℕ) (used : ℕ) (es : List Entry) (r : Changed) (log′ : List ℕ) : Type 0 where
   pub done : r ≡ Change.Done (record { len = used + sizeAll es })
+  pub room : used + sizeAll es ≤ length log
   pub map : mapOf log′ (used + sizeAll es) ≡ afterAll es (mapOf log used)
 
 module _ {log : List ℕ} {used : ℕ} {t : List ℕ} {es : List Entry} {r : Changed} {log′ t′ : List ℕ} (g : Agrees log used t) (d : Dels es) (w : Leaves log used t es r log′ t′)
     (e : r ≡ appendAnswer log used (length t) es) (z : changedNumber r ≡ 0) where
-  room : used + sizeAll es ≤ length log
-  room = answer-fine log used (length t) es (done-fine (appendAnswer log used (length t) es) r e z) .0
+  within : used + sizeAll es ≤ length log
+  within = answer-fine log used (length t) es (done-fine (appendAnswer log used (length t) es) r e z) .0
 
   laid : put log used (bytesAll es) ≡ log′
   laid = sym (w .bytes g ∙ ap (λ (n : ℕ). ifDone n (put log used (bytesAll es)) log) z)
@@ -64,9 +65,10 @@ module _ {log : List ℕ} {used : ℕ} {t : List ℕ} {es : List Entry} {r : Cha
 
   ended : Ended log used es r log′
   ended =
-      let s = dels-append log used t es g (countOf t) refl room d in
+      let s = dels-append log used t es g (countOf t) refl within d in
       record {
-        done = e ∙ dels-done log used t es g d room;
+        done = e ∙ dels-done log used t es g d within;
+        room = within;
         map = map-at (s .bytes ∙ laid) (s .ends) (s .map);
       }
 
@@ -77,7 +79,7 @@ unfolding cutsOf
 cuts-dels [] k = dels-more dels-none
 cuts-dels (q ∷ m) k = dels-more (cuts-dels m k)
 
-commit-dels : (h : Handle) (m : List Pair) → Dels (commitPlan h m)
+pub commit-dels : (h : Handle) (m : List Pair) → Dels (commitPlan h m)
 unfolding commitPlan
 commit-dels h m = go (h .«read_only»)
   where
@@ -85,7 +87,7 @@ commit-dels h m = go (h .«read_only»)
     go true = dels-none
     go false = cuts-dels (writesOf (h .version) m) (activeKey h)
 
-rollback-dels : (h : Handle) (m : List Pair) → Dels (rollbackPlan h m)
+pub rollback-dels : (h : Handle) (m : List Pair) → Dels (rollbackPlan h m)
 unfolding rollbackPlan
 rollback-dels h m = go (h .«read_only»)
   where

@@ -8,6 +8,7 @@ use mathlib.Core.Bool.{Bool, true}
 use mathlib.Core.Option.{Option}
 use mathlib.Core.Logic.{_≢_, _⊎_}
 use mathlib.Core.List.{List, _∷_}
+use native.Mathlib.Omega.{arith}
 use lib.ListN.{length}
 use Rattle.keycode.specs.Limits.{maxKey, maxValue, maxLog}
 use Rattle.keycode.specs.declared.refusal.Refusal.the-variants.{NotOpen, NoSuchVersion}
@@ -16,6 +17,7 @@ use Rattle.recovery.specs.declared.request.Changed.{Changed}
 use Rattle.recovery.specs.declared.request.Changed.the-variants as Change
 use Rattle.recovery.specs.Agree.{Agrees}
 use Rattle.recovery.specs.Promises.{changedNumber, Opens}
+use Rattle.recovery.proofs.AgreeLaws.{agrees-sound}
 use Rattle.recovery.proofs.OpenLaws.{open-empty}
 use Rattle.bitcask.specs.declared.answers.Bound.{Bound}
 use Rattle.bitcask.specs.declared.answers.Located.{Located}
@@ -41,6 +43,7 @@ use Rattle.isolation.specs.World.{World, Calls, begins, Gave, Run, meani
 use Rattle.isolation.specs.Views.{Usable, Sees, Shows, Meets, sizeIn}
 use Rattle.isolation.specs.Shown.{ShowsFirst}
 use Rattle.isolation.proofs.HoldLaws.{run-holds}
+use Rattle.isolation.proofs.ReopenLaws.{reopened}
 use Rattle.isolation.proofs.ShownLaws.{sees-given, usable-in, sees-shown, got-shows}
 use Rattle.isolation.proofs.ScanLaws.{scan-shown, prefix-shown, shows-same}
 use Rattle.isolation.proofs.MeetLaws.{write-meets}
@@ -55,6 +58,15 @@ module _ {w : World} {T : Calls} (R : Run true w T) where
   -- S2, S4. Whatever calls were made, the table agrees with the log after each.
   pub run-agrees : Agrees (w .log) (w .used) (w .table)
   run-agrees = run-holds R .ready refl
+
+  -- An opening of the log with a table of at least as many words as the one in hand, whatever they are, is done and cuts nothing: whoever
+  -- keeps log, used length and the table's size loses nothing by the loss of the table's words.
+  pub reopens-larger : (t : List ℕ) → length (w .table) ≤ length t → length t % slotWords ≡ 0 → {r : Changed} {t′ : List ℕ} → Opens (w .log) (w .used) t r t′
+      → r ≡ Change.Done (record { len = w .used })
+  reopens-larger t h k o = reopened R t h k o
+
+  pub reopens : (t : List ℕ) → length t ≡ length (w .table) → {r : Changed} {t′ : List ℕ} → Opens (w .log) (w .used) t r t′ → r ≡ Change.Done (record { len = w .used })
+  reopens t e o = reopens-larger t (omega arith) (rw e (agrees-sound (w .log) (w .used) (w .table) run-agrees .whole)) o
 
   -- S5, S6. A get with a handle that may be used, of a key within the limit, shows exactly what the handle is to see: 0 with that value,
   -- or 1 where there is none, and no other number.

@@ -111,7 +111,7 @@ kept-refused {w} {T} k a p q e past = (
 
 -- ---- compactions
 
-abbrev lenOf : Changed → ℕ
+abbrev pub lenOf : Changed → ℕ
 lenOf (Done u) = u .len
 lenOf (Refused r) = 0
 
@@ -120,7 +120,7 @@ done-picks true true n x y u e = ap lenOf e
 done-picks true false n x y u e = nope (cc)
 done-picks false b n x y u e = nope (cc)
 
-compact-says : (log : List ℕ) (used words room : ℕ) (u : Used) → Done u ≡ compactAnswer log used words room → u .len ≡ sizeAll (entriesOf (mapOf log used))
+pub compact-says : (log : List ℕ) (used words room : ℕ) (u : Used) → Done u ≡ compactAnswer log used words room → u .len ≡ sizeAll (entriesOf (mapOf log used))
 compact-says log used words room u e =
     let n : ℕ = sizeAll (entriesOf (mapOf log used)) in
     done-picks (pick (fit (length log) used words) (leb room maxLog) false) (leb n room) n LogFull BadRequest u e

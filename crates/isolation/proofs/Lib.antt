@@ -7,6 +7,7 @@ pub mod BeganLaws
 pub mod WroteLaws
 pub mod PlainLaws
 pub mod HoldLaws
+pub mod ReopenLaws
 pub mod ShownLaws
 pub mod ScanLaws
 pub mod MeetLaws

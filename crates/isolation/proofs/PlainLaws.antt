@@ -1,5 +1,5 @@
 -- The unversioned set, commit and rollback keep the store's records. Assumes nothing.
-use Prim.Native.Nat.{ℕ, _+_, _-_}
+use Prim.Native.Nat.{ℕ, _+_}
 use mathlib.Core.Path.{_≡_, refl, sym, ap, _∙_, subst}
 use mathlib.Core.Bool.{Bool, true, false, not, cond}
 use mathlib.Core.List.{List, _∷_}
@@ -41,7 +41,7 @@ use Rattle.records.proofs.ReadLaws.{open-pairs}
 use Rattle.isolation.specs.World.{World, Calls, setsPlain, commits, rollsBack, changedTo, Given, traceOf}
 use Rattle.isolation.proofs.GivenLaws.{given-trace}
 use Rattle.isolation.proofs.EndedLaws.{admits, commit-ended, rollback-ended}
-use Rattle.isolation.proofs.KeptLaws.{Sound, Kept, Ready, given-cases, kept-refused, refused-same}
+use Rattle.isolation.proofs.KeptLaws.{Sound, Kept, Ready, given-cases, kept-refused, refused-same, lenOf}
 use Rattle.isolation.proofs.WroteLaws.{own-version}
 
 -- ---- they give no handle
@@ -54,10 +54,6 @@ commit-past h = given-cases (λ x i g. nope (cc)) (λ x i g. nope (cc)) (λ v x 
 
 rollback-past : {x : Handle} {r : Changed} {T : Calls} (h : Handle) → Given h (rollsBack x r ∷ T) → Given h T
 rollback-past h = given-cases (λ x i g. nope (cc)) (λ x i g. nope (cc)) (λ v x i g. nope (cc)) (λ g. g)
-
-abbrev lenOf : Changed → ℕ
-lenOf (Change.Done u) = u .len
-lenOf (Change.Refused r) = 0
 
 -- ---- the unversioned set
 

@@ -64,7 +64,7 @@ apart-tags h e = let z = ap (λ (l : List ℕ). getD l 0 0) e in omega arith
 tags-apart : {a b : List ℕ} → getD b 0 0 < getD a 0 0 → a ≡ b → ⊥
 tags-apart h e = let z = ap (λ (l : List ℕ). getD l 0 0) e in omega arith
 
-plan-sets : (k v : ℕ) (p : List ℕ) → Sets (planBy k v p)
+pub plan-sets : (k v : ℕ) (p : List ℕ) → Sets (planBy k v p)
 unfolding planBy snapshotBy
 plan-sets zero v p = sets-more (sets-more sets-none)
 plan-sets (suc k) v p = sets-more (sets-more (sets-more sets-none))
