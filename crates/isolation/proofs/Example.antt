@@ -84,3 +84,38 @@ run₇ =
     let r₇ = callsBy r₆ (gets h₂ a (Got.Refused Absent)) refl (by-begin (later (later (later (later (later (later (later (later now)))))))) (refl, refl)) (getting (contracts .gets₂)) in
     let r₈ = callsBy r₇ (gets back₂ a (Got.Refused Absent)) refl (by-asOf (later (later (later now))) (refl, refl)) (getting (contracts .getsBack₂)) in
     callsBy r₈ (gets back₃ a found) refl (by-asOf (later (later (later now))) (refl, refl)) (getting (contracts .getsBack₃))
+
+-- ---- what the theorems say of it: whatever answer a contract admits there
+
+-- 1 wrote the key and is open
+clash : Clash (meaning T₃) 2 a
+unfolding traceOf events status lastWrite ℕ-discrete key≟ handleOf
+clash = record { other = 1; differs = λ e. absurd (omega arith); writes = λ e. nope (cc); late = inl refl }
+
+-- 2's set of the key: Conflict
+pub second-conflicts : {r : Changed} {log t : List ℕ} → Writes log₃ 135 table₃ h₂ a (valueBytes (some y)) 1 r log t → r ≡ Refused Conflict
+unfolding traceOf events status ℕ-discrete handleOf
+second-conflicts b = met (write-conflicts run₃ now (refl, refl) refl (omega arith) (some y) (omega arith) b)
+  where
+    met : {room r : Changed} → Meets T₃ h₂ a room r → r ≡ Refused Conflict
+    met (clashes c e) = e
+    met (free n e) = absurd (n clash)
+
+-- 3's get: 1 had committed before 3 began
+pub third-gets : {r : Located} → Gets log₆ 140 table₆ h₃ a r → Shows log₆ r (some x)
+unfolding traceOf events status lastWrite laid ℕ-discrete key≟ handleOf
+third-gets b = get-shows run₆ (writer (later (later now)) (refl, refl) (λ k. refl)) (inr refl) (omega arith) b
+
+-- 2's get: 1 was open when 2 began, whatever came after
+pub second-gets : {r : Located} → Gets log₆ 140 table₆ h₂ a r → Shows log₆ r none
+unfolding traceOf events status lastWrite laid ℕ-discrete key≟ handleOf
+second-gets b = get-shows run₆ (writer (later (later (later (later (later (later (later now))))))) (refl, refl) (λ k. refl)) (inr refl) (omega arith) b
+
+-- the look back to 2 shows what 2 saw as it began, that to 3 what 3 saw
+pub back-second-gets : {r : Located} → Gets log₆ 140 table₆ back₂ a r → Shows log₆ r none
+unfolding traceOf events lastWrite laid past ℕ-discrete key≟ handleOf
+back-second-gets b = get-shows run₆ (asOf (later now) (refl, refl) (λ e. absurd (omega arith)) (λ k. refl)) (inl refl) (omega arith) b
+
+pub back-third-gets : {r : Located} → Gets log₆ 140 table₆ back₃ a r → Shows log₆ r (some x)
+unfolding traceOf events lastWrite laid past ℕ-discrete key≟ handleOf
+back-third-gets b = get-shows run₆ (asOf now (refl, refl) (λ e. absurd (omega arith)) (λ k. refl)) (inl refl) (omega arith) b
