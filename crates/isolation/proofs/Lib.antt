@@ -14,3 +14,5 @@ pub mod MeetLaws
 pub mod OverLaws
 pub mod AnswerLaws
 pub mod Isolation
+pub mod ExampleSteps
+pub mod Example

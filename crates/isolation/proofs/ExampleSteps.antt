@@ -1,0 +1,253 @@
+-- A worked run, over bytes: its worlds, and that each call's contract admits what is answered there. Every equation holds by computing the
+-- definitions that the contracts cite; proofs/Example.antt has the run and what the theorems say of it. Assumes nothing.
+use Prim.Native.Nat.{ℕ}
+use mathlib.Core.Path.{_≡_, refl, subst}
+use mathlib.Core.Bool.{true, false}
+use mathlib.Core.Option.{some}
+use mathlib.Core.List.{List, [], _∷_}
+use native.Mathlib.Omega.{arith}
+use lib.ListN.{replicate, drop}
+use Rattle.keycode.specs.Buffer.{put}
+use Rattle.keycode.specs.Number.{be, num, numFrom}
+use Rattle.keycode.specs.Order.{compareBytes, compareNat}
+use Rattle.keycode.specs.Strings.{escape, escapeBody, escapeByte, scanned}
+use Rattle.keycode.specs.declared.refusal.Refusal.the-variants.{Absent, Conflict}
+use Rattle.keycode.proofs.Basics.{nope}
+use Rattle.keys.specs.Keys.{encode, nextVersion, txnActive, txnActiveSnapshot, txnWrite, version, decodeWhy, keyOf as readKey, stringAt, onEnded, exactly}
+use Rattle.entry.specs.Entry.{set, del, bytesOf}
+use Rattle.entry.specs.Length.{signedOf, lenOf, lengthOf}
+use Rattle.entry.specs.Reading.{wordAt, headAt, entryAt}
+use Rattle.keydir.specs.Slots.{tableOf, wordsOf, keyOf, valueOf, insertAt, replaceAt, removeAt}
+use Rattle.keydir.specs.Place.{placeIn}
+use Rattle.recovery.specs.declared.request.Used.{Used}
+use Rattle.recovery.specs.declared.request.Changed.{Changed}
+use Rattle.recovery.specs.declared.request.Changed.the-variants.{Done, Refused}
+use Rattle.recovery.specs.Map.{lookIn, putIn, cutIn, after}
+use Rattle.recovery.specs.Recover.{items, itemsOf, ends, step, fold, recovered, view, mapOf, stepIn, run}
+use Rattle.recovery.specs.Agree.{fit}
+use Rattle.recovery.specs.Promises.{Opens, openAnswer, openTable}
+use Rattle.bitcask.specs.declared.answers.Located.{Located}
+use Rattle.bitcask.specs.declared.answers.Located.the-variants as Got
+use Rattle.bitcask.specs.Append.{sizeAll, bytesAll, afterAll, appendAnswer}
+use Rattle.compaction.specs.Compaction.{entriesOf}
+use Rattle.compaction.specs.Promises.{Compacts}
+use Rattle.handle.specs.declared.handle.Handle.{Handle}
+use Rattle.handle.specs.Handles.{handleOf, setOf, soundHandle, rising, risingFrom, sees, memb, lowestOf, firstOr}
+use Rattle.handle.specs.Payloads.{setBytes, setIn, versionsOf, setFor, versionIn, valueBytes, valueIn}
+use Rattle.tombs.specs.Cuts.{Extends}
+use Rattle.tombs.specs.Plans.{cutsOf}
+use Rattle.txn.specs.Given.{begunWith}
+use Rattle.txn.specs.Ranges.{pairsOf, begins, inside, keep}
+use Rattle.txn.specs.Looks.{liveIn}
+use Rattle.txn.specs.Checks.{openBy, ownVersion, admitBy}
+use Rattle.mvcc_begin.specs.Active.{nextAt, nextOf, activeAt, activeKeys, activeIn, versionsIn, keysOf}
+use Rattle.mvcc_begin.specs.Plan.{planOf, planBy, snapshotBy}
+use Rattle.mvcc_begin.specs.Begins.{snapshotRead}
+use Rattle.mvcc_begin.specs.Promises.{Begins, BeginsAsOf}
+use Rattle.mvcc_read.specs.Seen.{lastSeen, seenIn, valueSays}
+use Rattle.mvcc_read.specs.Promises.{Gets, getAnswer}
+use Rattle.mvcc_write.specs.Writes.{plan, allowBy, sizesBy, searchBy, searched, seenBytes}
+use Rattle.mvcc_write.specs.Promises.{Writes, writeAnswer, mayWrite}
+use Rattle.mvcc_end.specs.Plans.{commitPlan, writesOf}
+use Rattle.mvcc_end.specs.Promises.{Commits, commitAnswer, among}
+
+abbrev pub done : ℕ → Changed
+done n = Done (record { len = n })
+
+-- ---- what the calls are lent and given: a key, two values, and the handles of versions 1, 2 and 3 and of two looks back
+
+abbrev pub a : List ℕ
+a = 97 ∷ []
+
+abbrev pub x : List ℕ
+x = 120 ∷ []
+
+abbrev pub y : List ℕ
+y = 121 ∷ []
+
+abbrev pub h₁ : Handle
+h₁ = handleOf 1 false []
+
+abbrev pub h₂ : Handle
+h₂ = handleOf 2 false (1 ∷ [])
+
+abbrev pub h₃ : Handle
+h₃ = handleOf 3 false (2 ∷ [])
+
+abbrev pub back₂ : Handle
+back₂ = handleOf 2 true (1 ∷ [])
+
+abbrev pub back₃ : Handle
+back₃ = handleOf 3 true (2 ∷ [])
+
+-- where x stands at last
+abbrev pub found : Located
+found = Got.At (record { at = 80; len = 1 })
+
+-- ---- logs and tables: a buffer of zeros, and a table of 8 slots
+
+unfoldable pub blank : List ℕ
+blank = replicate {A = ℕ} 180 0
+
+unfoldable pub free : List ℕ
+free = replicate {A = ℕ} 24 0
+
+-- version 1 began
+unfoldable pub log₁ : List ℕ
+log₁ = put blank 0 (bytesAll (set (encode nextVersion) (be 8 2) ∷ set (encode (txnActive 1)) [] ∷ []))
+
+unfoldable pub table₁ : List ℕ
+table₁ = 1 ∷ 1 ∷ 8 ∷ 18 ∷ 9 ∷ 0 ∷ replicate {A = ℕ} 18 0
+
+-- it set the key to x
+unfoldable pub log₂ : List ℕ
+log₂ = put log₁ 34 (bytesAll (set (encode (txnWrite 1 a)) [] ∷ set (encode (version a 1)) (1 ∷ x) ∷ []))
+
+unfoldable pub table₂ : List ℕ
+table₂ = 1 ∷ 1 ∷ 8 ∷ 18 ∷ 9 ∷ 0 ∷ 35 ∷ 12 ∷ 0 ∷ 55 ∷ 12 ∷ 2 ∷ replicate {A = ℕ} 12 0
+
+-- version 2 began, and keeps that 1 was open
+unfoldable pub log₃ : List ℕ
+log₃ = put log₂ 76 (bytesAll (set (encode nextVersion) (be 8 3) ∷ set (encode (txnActiveSnapshot 2)) (be 8 1) ∷ set (encode (txnActive 2)) [] ∷ []))
+
+unfoldable pub table₃ : List ℕ
+table₃ = 77 ∷ 1 ∷ 8 ∷ 18 ∷ 9 ∷ 0 ∷ 119 ∷ 9 ∷ 0 ∷ 94 ∷ 9 ∷ 8 ∷ 35 ∷ 12 ∷ 0 ∷ 55 ∷ 12 ∷ 2 ∷ replicate {A = ℕ} 6 0
+
+-- version 1 committed
+unfoldable pub log₄ : List ℕ
+log₄ = put log₃ 135 (bytesAll (del (encode (txnWrite 1 a)) ∷ del (encode (txnActive 1)) ∷ []))
+
+unfoldable pub table₄ : List ℕ
+table₄ = 77 ∷ 1 ∷ 8 ∷ 119 ∷ 9 ∷ 0 ∷ 94 ∷ 9 ∷ 8 ∷ 55 ∷ 12 ∷ 2 ∷ replicate {A = ℕ} 12 0
+
+-- compacted into another buffer
+unfoldable pub log₅ : List ℕ
+log₅ = put blank 0 (bytesAll (set (encode nextVersion) (be 8 3) ∷ set (encode (txnActive 2)) [] ∷ set (encode (txnActiveSnapshot 2)) (be 8 1) ∷ set (encode (version a 1)) (1 ∷ x) ∷ []))
+
+unfoldable pub table₅ : List ℕ
+table₅ = 1 ∷ 1 ∷ 8 ∷ 18 ∷ 9 ∷ 0 ∷ 35 ∷ 9 ∷ 8 ∷ 60 ∷ 12 ∷ 2 ∷ replicate {A = ℕ} 12 0
+
+-- version 3 began, and keeps that 2 was open
+unfoldable pub log₆ : List ℕ
+log₆ = put log₅ 81 (bytesAll (set (encode nextVersion) (be 8 4) ∷ set (encode (txnActiveSnapshot 3)) (be 8 2) ∷ set (encode (txnActive 3)) [] ∷ []))
+
+unfoldable pub table₆ : List ℕ
+table₆ = 82 ∷ 1 ∷ 8 ∷ 18 ∷ 9 ∷ 0 ∷ 124 ∷ 9 ∷ 0 ∷ 35 ∷ 9 ∷ 8 ∷ 99 ∷ 9 ∷ 8 ∷ 60 ∷ 12 ∷ 2 ∷ replicate {A = ℕ} 6 0
+
+-- ---- the contracts
+
+-- an answer's used length is the one that it was made with
+at-length : (P : ℕ → Type 0) {n : ℕ} {u : Used} → done n ≡ Done u → P n → P (u .len)
+at-length P {n} {u} e p = let q : n ≡ u .len = cc in subst P q p
+
+-- what the contracts admit, in the order of the run
+pub record Contracts : Type 0 where
+  pub opens₁ : Opens blank 0 free (done 0) free
+  pub begins₁ : Begins blank 0 free (begunWith 34 h₁) log₁ table₁
+  pub sets₁ : Writes log₁ 34 table₁ h₁ a (valueBytes (some x)) 1 (done 76) log₂ table₂
+  pub begins₂ : Begins log₂ 76 table₂ (begunWith 135 h₂) log₃ table₃
+  pub sets₂ : Writes log₃ 135 table₃ h₂ a (valueBytes (some y)) 1 (Refused Conflict) log₃ table₃
+  pub commits₁ : Commits log₃ 135 table₃ h₁ (done 172) log₄ table₄
+  pub compacts₁ : Compacts log₄ 172 table₄ blank (done 81) table₅ log₅
+  pub opens₂ : Opens log₅ 81 free (done 81) table₅
+  pub begins₃ : Begins log₅ 81 table₅ (begunWith 140 h₃) log₆ table₆
+  pub gets₃ : Gets log₆ 140 table₆ h₃ a found
+  pub gets₂ : Gets log₆ 140 table₆ h₂ a (Got.Refused Absent)
+  pub asOf₂ : BeginsAsOf log₆ 140 table₆ 2 (begunWith 140 back₂)
+  pub asOf₃ : BeginsAsOf log₆ 140 table₆ 3 (begunWith 140 back₃)
+  pub getsBack₂ : Gets log₆ 140 table₆ back₂ a (Got.Refused Absent)
+  pub getsBack₃ : Gets log₆ 140 table₆ back₃ a found
+
+pub contracts : Contracts
+unfolding blank free log₁ log₂ log₃ log₄ log₅ log₆ table₁ table₂ table₃ table₄ table₅ table₆ put be num numFrom compareBytes compareNat escape escapeBody escapeByte
+    scanned decodeWhy readKey stringAt onEnded exactly bytesOf signedOf lenOf lengthOf wordAt headAt entryAt tableOf wordsOf keyOf valueOf insertAt replaceAt removeAt placeIn
+    lookIn putIn cutIn after items itemsOf ends step fold recovered view mapOf stepIn run fit openAnswer openTable sizeAll bytesAll afterAll appendAnswer entriesOf
+    handleOf setOf soundHandle rising risingFrom sees memb lowestOf firstOr setBytes setIn versionsOf setFor versionIn valueBytes valueIn cutsOf pairsOf begins inside keep
+    liveIn openBy ownVersion admitBy nextAt nextOf activeAt activeKeys activeIn versionsIn keysOf planBy snapshotBy snapshotRead lastSeen seenIn valueSays getAnswer
+    plan allowBy sizesBy searchBy searched seenBytes writeAnswer mayWrite commitPlan writesOf commitAnswer among
+contracts =
+    record {
+      opens₁ = record { answer = refl; table = refl };
+      begins₁ =
+          record {
+            bytes = refl;
+            words = refl;
+            long = refl;
+            ends = λ u e. (cc, omega arith);
+            blank = refl;
+            bad = refl;
+            answer = λ g. refl;
+            again = λ g z. record { sound = refl; clean = refl; words = refl };
+            map = λ g z. refl;
+          };
+      sets₁ =
+          record {
+            leaves = record { bytes = refl; words = refl; long = refl; ends = λ u e. (cc, omega arith); again = λ g z. record { sound = refl; clean = refl; words = refl } };
+            early = record { bad = refl; readOnly = refl; notOpen = refl; keyLong = refl; valueLong = refl };
+            answer = λ g. refl;
+          };
+      begins₂ =
+          record {
+            bytes = refl;
+            words = refl;
+            long = refl;
+            ends = λ u e. (cc, omega arith);
+            blank = refl;
+            bad = refl;
+            answer = λ g. refl;
+            again = λ g z. record { sound = refl; clean = refl; words = refl };
+            map = λ g z. refl;
+          };
+      sets₂ =
+          record {
+            leaves = record { bytes = refl; words = refl; long = refl; ends = λ u e. nope (cc); again = λ g z. absurd (omega arith) };
+            early = record { bad = refl; readOnly = refl; notOpen = refl; keyLong = refl; valueLong = refl };
+            answer = λ g. refl;
+          };
+      commits₁ =
+          record {
+            leaves =
+                record {
+                  kept = refl;
+                  words = refl;
+                  long = refl;
+                  ends = λ u e. at-length (λ (n : ℕ). Extends log₃ 135 log₄ n) e (record { long = refl; onward = (omega arith, omega arith); below = refl; past = refl });
+                  bytes = λ g. refl;
+                  again = λ g z. record { sound = refl; clean = refl; words = refl };
+                };
+            early = record { bad = refl; never = λ e. nope (cc); reads = λ e. nope (cc) };
+            numbers = refl;
+            answer = λ g. refl;
+          };
+      compacts₁ =
+          record {
+            words = refl;
+            bytes = refl;
+            past = λ u e. at-length (λ (n : ℕ). drop n log₅ ≡ drop n blank) e refl;
+            long = (refl, refl);
+            bad = refl;
+            answer = λ g. refl;
+            target = λ g z. refl;
+            again = λ g z. record { sound = refl; clean = refl; words = refl };
+            same = λ g z. refl;
+          };
+      opens₂ = record { answer = refl; table = refl };
+      begins₃ =
+          record {
+            bytes = refl;
+            words = refl;
+            long = refl;
+            ends = λ u e. (cc, omega arith);
+            blank = refl;
+            bad = refl;
+            answer = λ g. refl;
+            again = λ g z. record { sound = refl; clean = refl; words = refl };
+            map = λ g z. refl;
+          };
+      gets₃ = record { bad = refl; never = λ e. nope (cc); ever = λ e. nope (cc); long = λ e. nope (cc); answer = λ g. refl };
+      gets₂ = record { bad = refl; never = λ e. nope (cc); ever = λ e. nope (cc); long = λ e. nope (cc); answer = λ g. refl };
+      asOf₂ = record { blank = refl; bad = refl; answer = λ g. refl };
+      asOf₃ = record { blank = refl; bad = refl; answer = λ g. refl };
+      getsBack₂ = record { bad = refl; never = λ e. nope (cc); ever = λ e. refl; long = λ e. refl; answer = λ g. refl };
+      getsBack₃ = record { bad = refl; never = λ e. nope (cc); ever = λ e. refl; long = λ e. refl; answer = λ g. refl };
+    }
