@@ -63,7 +63,8 @@ module _ {w : World} {T : Calls} (R : Run true w T) where
   run-agrees = run-holds R .ready refl
 
   -- An opening of the log with a table of at least as many words as the one in hand, whatever they are, is done and cuts nothing: whoever
-  -- keeps log, used length and the table's size loses nothing by the loss of the table's words.
+  -- keeps log, used length and the table's size loses nothing by the loss of the table's words. Refused openings in between change neither
+  -- log nor used length, so that the same holds after them.
   pub reopens-larger : (t : List ℕ) → length (w .table) ≤ length t → length t % slotWords ≡ 0 → {r : Changed} {t′ : List ℕ} → Opens (w .log) (w .used) t r t′
       → r ≡ Change.Done (record { len = w .used })
   reopens-larger t h k o = reopened R t h k o
