@@ -1,42 +1,65 @@
--- Theorems: an as-of answers 0 exactly for 0 and the versions that began; no begin, as-of or status answers 12. Assumes nothing.
+-- Theorems: an as-of answers 0 exactly for 0 and the versions that began; no begin answers 12, and none gives a version that was given
+-- before; the status answers 0; with a handle that may be used a resume answers 0, a commit and a rollback 0 or 7. Assumes nothing.
 use Prim.Native.Nat.{ℕ, _+_, _-_, _/_, _^_, _≤_, _<_}
-use mathlib.Core.Path.{_≡_, sym, ap, _∙_}
+use mathlib.Core.Path.{_≡_, refl, sym, ap, _∙_}
 use mathlib.Core.Bool.{Bool, true, false}
 use mathlib.Core.Option.{some}
 use mathlib.Core.Logic.{_≢_, _⊎_, inl, inr}
-use mathlib.Core.List.{List}
-use native.Mathlib.Decide.{decLt}
+use mathlib.Core.List.{List, _∷_}
+use native.Mathlib.Decide.{decLe, decLt}
 use native.Mathlib.Omega.{arith}
 use lib.Dec.{leb, eqb}
 use lib.ListN.{length}
 use borrow.Author.Tests.{le-leb, lt-leb}
 use Rattle.keycode.specs.Tests.{pick}
 use Rattle.keycode.specs.Limits.{maxOpen}
-use Rattle.keycode.specs.declared.refusal.Refusal.the-variants.{LogFull, TableFull, TooManyOpen, NoSuchVersion, VersionsSpent}
+use Rattle.keycode.specs.declared.refusal.Refusal.the-variants.{LogFull, TableFull, TooManyOpen, NoSuchVersion, VersionsSpent, BadStore}
 use Rattle.keydir.specs.Slots.{slotWords}
 use Rattle.keys.specs.Keys.{nextVersion, txnActiveSnapshot}
 use Rattle.entry.specs.Entry.{Entry}
 use Rattle.recovery.specs.declared.request.Changed.{Changed}
 use Rattle.recovery.specs.declared.request.Changed.the-variants as Change
 use Rattle.recovery.specs.Recover.{mapOf}
+use Rattle.recovery.specs.Agree.{fit, Agrees}
 use Rattle.recovery.specs.Promises.{changedNumber}
+use Rattle.bitcask.specs.declared.append.Check.{Check}
+use Rattle.bitcask.specs.declared.append.Check.the-variants.{Fine}
 use Rattle.bitcask.specs.Append.{sizeAll, afterAll, appendAnswer}
 use Rattle.handle.specs.declared.payload.SetAnswer.the-variants as SetAnswers
 use Rattle.handle.specs.declared.handle.Handle.{Handle}
-use Rattle.handle.specs.Handles.{handleOf}
+use Rattle.handle.specs.Handles.{handleOf, soundHandle}
 use Rattle.txn.specs.declared.begun.Begun.{Begun}
 use Rattle.txn.specs.Given.{refusedBy, begunWith}
+use Rattle.txn.specs.Checks.{admitBy, orElse, openIn}
+use Rattle.txn.specs.Lists.{Dels}
+use Rattle.mvcc_begin.specs.declared.status.Versions.{Versions}
+use Rattle.mvcc_begin.specs.declared.status.Stated.{Stated}
+use Rattle.mvcc_begin.specs.declared.status.Stated.the-variants as Stating
 use Rattle.mvcc_begin.specs.Plan.{beginPlan}
 use Rattle.mvcc_begin.specs.Begins.{begunBy, beginWith, readingWith, asOfWith}
-use Rattle.mvcc_begin.specs.Promises.{Begins, BeginsReading, BeginsAsOf}
-use Rattle.history.specs.History.{unborn, status}
-use Rattle.history.specs.Records.{Map, look}
+use Rattle.mvcc_begin.specs.Promises.{Begins, BeginsReading, BeginsAsOf, States}
+use Rattle.mvcc_read.specs.Promises.{resumeAnswer, Resumes}
+use Rattle.mvcc_end.specs.Plans.{writesOf, commitPlan, allUsers, rollbackPlan}
+use Rattle.mvcc_end.specs.Promises.{Commits, commitAnswer, RollsBack, undoAnswer, rollbackAnswer}
+use Rattle.mvcc_end.proofs.EndLaws.{dels-done}
+use Rattle.history.specs.History.{After, Sight, unborn, status}
+use Rattle.history.specs.Records.{Map, look, Sorted}
 use Rattle.history.specs.Calls.{nextOf, setOf as snapOf, actives}
-use Rattle.history.proofs.RunLaws.{run-born, run-unborn}
+use Rattle.history.proofs.EffectLaws.{in-actives}
+use Rattle.history.proofs.RunLaws.{run-born, run-unborn, begin-new, run-open, run-sorted}
+use Rattle.records.specs.Stored.{keyOrder, sightOf}
 use Rattle.records.proofs.OrderLaws.{order}
-use Rattle.isolation.specs.World.{World, Calls, meaning}
+use Rattle.records.proofs.ActiveLaws.{active-count, actives-rise}
+use Rattle.records.proofs.ReadLaws.{next-pairs}
+use Rattle.records.proofs.EndLaws.{users-pairs}
+use Rattle.isolation.specs.World.{World, Calls, begins, Gave, Given, meaning}
+use Rattle.isolation.specs.Views.{Usable, Tells}
+use Rattle.isolation.proofs.GivenLaws.{began-trace}
+use Rattle.isolation.proofs.EndedLaws.{admits, commit-dels, rollback-dels}
 use Rattle.isolation.proofs.KeptLaws.{Kept, Ready}
+use Rattle.isolation.proofs.BegunLaws.{begin-says, sight-made}
 use Rattle.isolation.proofs.BeganLaws.{next-fits, begin-at, reading-at, as-of-at}
+use Rattle.isolation.proofs.ShownLaws.{open-in}
 
 -- ---- numbers that are not 12
 
@@ -69,7 +92,30 @@ reading-not used n vs = go (leb (length vs) maxOpen)
 early : (used : ℕ) (h : Handle) (late : Bool) {r : Begun} → r ≡ pick late (refusedBy NoSuchVersion) (asOfWith used SetAnswers.Fine h) → late ≡ false → changedNumber (r .answer) ≡ 0
 early used h late e p = ap (λ (x : Begun). changedNumber (x .answer)) (e ∙ ap (λ (b : Bool). pick b (refusedBy NoSuchVersion) (asOfWith used SetAnswers.Fine h)) p)
 
+-- ---- ends
+
+-- a list of tombstones meets no other refusal than that of a full log
+dels-answer : (log : List ℕ) (used : ℕ) (t : List ℕ) (es : List Entry) {r : Changed} → Agrees log used t → Dels es → r ≡ appendAnswer log used (length t) es
+    → (changedNumber r ≡ 0) ⊎ (changedNumber r ≡ 7)
+unfolding appendAnswer
+dels-answer log used t es {r} g d e = go (decLe (used + sizeAll es) (length log))
+  where
+    go : Dec (used + sizeAll es ≤ length log) → (changedNumber r ≡ 0) ⊎ (changedNumber r ≡ 7)
+    go (yes h) = inl (ap changedNumber (e ∙ dels-done log used t es g d h))
+    go (no h) = inr (ap changedNumber e ∙ rw (lt-leb (used + sizeAll es) (length log) (omega arith)))
+
+admit-fine : (f g o : Bool) → f ≡ true → g ≡ true → o ≡ true → admitBy f g o ≡ Fine
+unfolding admitBy
+admit-fine f g o p q i = rw (p, q, i)
+
+undo-passed : (c : Check) (ro users : Bool) (x r : Changed) → r ≡ orElse c (pick (pick ro true users) x (Change.Refused BadStore)) → c ≡ Fine → users ≡ true → r ≡ x
+undo-passed c true users x r e p q = e ∙ rw p
+undo-passed c false users x r e p q = e ∙ rw (p, q)
+
 module _ {w : World} {T : Calls} {m : Map} (k : Kept w T m) (a : Ready w) where
+  sorted : Sorted keyOrder m
+  sorted = run-sorted order (k .run)
+
   pub begins-not : {r : Begun} {log t : List ℕ} → Begins (w .log) (w .used) (w .table) r log t → changedNumber (r .answer) ≢ 12
   begins-not {r} b e =
       begin-not (w .log) (w .used) (length (w .table)) (nextOf (look m nextVersion)) (actives m)
@@ -98,3 +144,56 @@ module _ {w : World} {T : Calls} {m : Map} (k : Kept w T m) (a : Ready w) where
       go : Dec (v < nextOf (look m nextVersion)) → r ≡ refusedBy NoSuchVersion
       go (yes l) = absurd (run-born order (k .run) v l n u)
       go (no l) = let i : nextOf (look m nextVersion) ≤ v = omega arith in as-of-at k a v r b ∙ rw (le-leb (nextOf (look m nextVersion)) v i)
+
+  -- ---- no version is given twice
+
+  pub begun-new : {r : Begun} {log t : List ℕ} {h : Handle} → Begins (w .log) (w .used) (w .table) r log t → Gave r h → {T₁ : Calls} {x : Begun} {i : Handle} → After (begins x ∷ T₁) T → Gave x i
+      → h .version ≢ i .version
+  begun-new {r} {h = h} b g {x = x} {i = i} f y e =
+      let n : ℕ = nextOf (look m nextVersion) in
+      let s = begin-says (w .log) (w .used) (length (w .table)) n (actives m) r (begin-at k a r b) (g .0) in
+      let few : length (actives m) ≤ maxOpen = omega (arith, s .1) in
+      let v : h .version ≡ n = ap (λ (z : Handle). z .version) (sym (g .1) ∙ s .2) ∙ ap (λ (z : Sight). z .ver) (sight-made n false (actives m) few) in
+      begin-new order (k .run) (sightOf i) _ (began-trace x y f) (sym v ∙ e)
+
+  -- ---- status
+
+  pub stated : {r : Stated} → States (w .log) (w .used) (w .table) r → (s : Versions) × (r ≡ Stating.Done s) × Tells T s
+  stated b =
+      let f = next-fits (k .fine) in (
+        record { last = nextOf (look m nextVersion) - 1; «open» = length (actives m) },
+        b .answer a ∙ rw (k .map, next-pairs sorted (k .fine), active-count m),
+        record {
+          began = λ v n l. run-born order (k .run) v (omega (arith, f .0)) n;
+          none-past = λ v l. run-unborn order (k .run) v (omega (arith, f .0));
+          versions = actives m;
+          rises = actives-rise sorted;
+          are-open = λ v. in-actives m v ∙ run-open order (k .run) v;
+          counted = refl;
+        },
+      )
+
+  -- ---- resume, commit and rollback with a handle that may be used
+
+  module _ {h : Handle} (g : Given h T) (u : Usable T h) where
+    admitted : admits (w .log) (w .used) (w .table) h ≡ Fine
+    admitted =
+        let s = k .handles h g in
+        admit-fine (fit (length (w .log)) (w .used) (length (w .table))) (soundHandle h) (openIn (w .log) (w .used) h) (a .sound) (s .sound) (open-in k s u)
+
+    pub resumed : {r : Begun} → Resumes (w .log) (w .used) (w .table) h r → r ≡ begunWith (w .used) h
+    unfolding resumeAnswer
+    resumed b = b .answer a ∙ rw admitted
+
+    pub commit-ends : {r : Changed} {log t : List ℕ} → Commits (w .log) (w .used) (w .table) h r log t → (changedNumber r ≡ 0) ⊎ (changedNumber r ≡ 7)
+    unfolding commitAnswer
+    commit-ends b =
+        dels-answer (w .log) (w .used) (w .table) (commitPlan h (mapOf (w .log) (w .used))) a (commit-dels h (mapOf (w .log) (w .used)))
+        (b .answer a ∙ ap (λ (c : Check). orElse c (appendAnswer (w .log) (w .used) (length (w .table)) (commitPlan h (mapOf (w .log) (w .used))))) admitted)
+
+    pub rollback-ends : {r : Changed} {log t : List ℕ} → RollsBack (w .log) (w .used) (w .table) h r log t → (changedNumber r ≡ 0) ⊎ (changedNumber r ≡ 7)
+    unfolding rollbackAnswer undoAnswer
+    rollback-ends {r} b =
+        dels-answer (w .log) (w .used) (w .table) (rollbackPlan h (mapOf (w .log) (w .used))) a (rollback-dels h (mapOf (w .log) (w .used)))
+        (undo-passed (admits (w .log) (w .used) (w .table) h) (h .«read_only») (allUsers (writesOf (h .version) (mapOf (w .log) (w .used))))
+        (appendAnswer (w .log) (w .used) (length (w .table)) (rollbackPlan h (mapOf (w .log) (w .used)))) r (b .answer a) admitted (rw (k .map) (users-pairs h (k .fine))))

@@ -29,8 +29,11 @@ use Rattle.bitcask.specs.Append.{appendAnswer}
 use Rattle.handle.specs.declared.handle.Handle.{Handle}
 use Rattle.handle.specs.Payloads.{valueBytes}
 use Rattle.txn.specs.declared.begun.Begun.{Begun}
-use Rattle.txn.specs.Given.{refusedBy}
-use Rattle.mvcc_begin.specs.Promises.{Begins, BeginsReading, BeginsAsOf}
+use Rattle.txn.specs.Given.{refusedBy, begunWith}
+use Rattle.mvcc_begin.specs.declared.status.Versions.{Versions}
+use Rattle.mvcc_begin.specs.declared.status.Stated.{Stated}
+use Rattle.mvcc_begin.specs.declared.status.Stated.the-variants as Stating
+use Rattle.mvcc_begin.specs.Promises.{Begins, BeginsReading, BeginsAsOf, States}
 use Rattle.mvcc_read.specs.Promises.{Gets, Resumes}
 use Rattle.mvcc_write.specs.Writes.{plan}
 use Rattle.mvcc_write.specs.Promises.{Writes}
@@ -39,8 +42,8 @@ use Rattle.mvcc_scan.specs.Promises.{Scanning, Scans, ScansPrefix}
 use Rattle.mvcc_end.specs.Promises.{Commits, RollsBack}
 use Rattle.history.specs.History.{Key, Bytes, After, unborn, opened, status}
 use Rattle.records.specs.Scans.{prefixPast}
-use Rattle.isolation.specs.World.{World, Calls, begins, Gave, Run, meaning}
-use Rattle.isolation.specs.Views.{Usable, Sees, Shows, Meets, sizeIn}
+use Rattle.isolation.specs.World.{World, Calls, begins, Gave, Given, Run, meaning}
+use Rattle.isolation.specs.Views.{Usable, Sees, Shows, Meets, sizeIn, Tells}
 use Rattle.isolation.specs.Shown.{ShowsFirst}
 use Rattle.isolation.proofs.HoldLaws.{run-holds}
 use Rattle.isolation.proofs.ReopenLaws.{reopened}
@@ -48,7 +51,7 @@ use Rattle.isolation.proofs.ShownLaws.{sees-given, usable-in, sees-show
 use Rattle.isolation.proofs.ScanLaws.{scan-shown, prefix-shown, shows-same}
 use Rattle.isolation.proofs.MeetLaws.{write-meets}
 use Rattle.isolation.proofs.OverLaws.{ended-gets, ended-scans, ended-resumes, ended-writes, ended-commits, ended-rolls}
-use Rattle.isolation.proofs.AnswerLaws.{begins-not, readings-not, as-of-began, as-of-else}
+use Rattle.isolation.proofs.AnswerLaws.{begins-not, readings-not, as-of-began, as-of-else, begun-new, stated, resumed, commit-ends, rollback-ends}
 
 -- S1. The first opening, of a buffer of any bytes of which nothing is used and with any table, is done, if the sizes are right.
 pub first-opens : {log t t′ : List ℕ} {r : Changed} → Opens log 0 t r t′ → length log ≤ maxLog → length t % slotWords ≡ 0 → r ≡ Change.Done (record { len = 0 })
@@ -60,7 +63,8 @@ module _ {w : World} {T : Calls} (R : Run true w T) where
   run-agrees = run-holds R .ready refl
 
   -- An opening of the log with a table of at least as many words as the one in hand, whatever they are, is done and cuts nothing: whoever
-  -- keeps log, used length and the table's size loses nothing by the loss of the table's words.
+  -- keeps log, used length and the table's size loses nothing by the loss of the table's words. Refused openings in between change neither
+  -- log nor used length, so that the same holds after them.
   pub reopens-larger : (t : List ℕ) → length (w .table) ≤ length t → length t % slotWords ≡ 0 → {r : Changed} {t′ : List ℕ} → Opens (w .log) (w .used) t r t′
       → r ≡ Change.Done (record { len = w .used })
   reopens-larger t h k o = reopened R t h k o
@@ -96,12 +100,33 @@ module _ {w : World} {T : Calls} (R : Run true w T) where
   pub as-of-refused : {v : ℕ} {r : Begun} → v ≢ 0 → status (meaning T) v ≡ unborn → BeginsAsOf (w .log) (w .used) (w .table) v r → r ≡ refusedBy NoSuchVersion
   as-of-refused n u b = as-of-else (run-holds R .kept) run-agrees n u b
 
-  -- 12 is no begin's answer; of the other calls the theorems here say all numbers.
+  -- 12 is no begin's answer; of the other calls whose contract has it the theorems here say all numbers.
   pub begin-sound : {r : Begun} {log t : List ℕ} → Begins (w .log) (w .used) (w .table) r log t → changedNumber (r .answer) ≢ 12
   begin-sound b = begins-not (run-holds R .kept) run-agrees b
 
   pub reading-sound : {r : Begun} → BeginsReading (w .log) (w .used) (w .table) r → changedNumber (r .answer) ≢ 12
   reading-sound b = readings-not (run-holds R .kept) run-agrees b
+
+  -- No version is given twice: a begin gives none that an earlier begin gave.
+  pub begin-fresh : {r : Begun} {log t : List ℕ} {h : Handle} → Begins (w .log) (w .used) (w .table) r log t → Gave r h → {T₁ : Calls} {x : Begun} {i : Handle} → After (begins x ∷ T₁) T
+      → Gave x i → h .version ≢ i .version
+  begin-fresh b g f i = begun-new (run-holds R .kept) run-agrees b g f i
+
+  -- The status answers 0, with the last version that began and the number of those that are open.
+  pub status-tells : {r : Stated} → States (w .log) (w .used) (w .table) r → (s : Versions) × (r ≡ Stating.Done s) × Tells T s
+  status-tells b = stated (run-holds R .kept) run-agrees b
+
+  -- With a handle that may be used a resume answers 0 and gives the handle as it is; a commit and a rollback answer 0, or 7 for want of
+  -- room in the log, and no other number.
+  module _ {h : Handle} (g : Given h T) (u : Usable T h) where
+    pub resume-answers : {r : Begun} → Resumes (w .log) (w .used) (w .table) h r → r ≡ begunWith (w .used) h
+    resume-answers b = resumed (run-holds R .kept) run-agrees g u b
+
+    pub commit-answers : {r : Changed} {log t : List ℕ} → Commits (w .log) (w .used) (w .table) h r log t → (changedNumber r ≡ 0) ⊎ (changedNumber r ≡ 7)
+    commit-answers b = commit-ends (run-holds R .kept) run-agrees g u b
+
+    pub rollback-answers : {r : Changed} {log t : List ℕ} → RollsBack (w .log) (w .used) (w .table) h r log t → (changedNumber r ≡ 0) ⊎ (changedNumber r ≡ 7)
+    rollback-answers b = rollback-ends (run-holds R .kept) run-agrees g u b
 
   -- of a transaction that a begin gave the handle of
   module _ {T₁ : Calls} {x : Begun} {h : Handle} (f : After (begins x ∷ T₁) T) (g : Gave x h) where

@@ -1,5 +1,4 @@
--- Theorems: the handle of a transaction that has ended meets 3 in every call; an as-of answers 0 exactly for 0 and the versions that
--- began; no call but for those with a bad request answers 12. Assumes nothing.
+-- Theorem: the handle of a transaction that has ended meets 3 in every call. Assumes nothing.
 use Prim.Native.Nat.{ℕ}
 use mathlib.Core.Path.{_≡_, refl, _∙_}
 use mathlib.Core.Bool.{Bool, true, false}

@@ -1,5 +1,5 @@
--- A run never has more keys in its log than its table has slots, at no entry of the log: so an opening with as many words is done and cuts
--- nothing. Assumes nothing.
+-- Behind no entry of a run's log are there more keys than its table has slots: so an opening with as many words is done and cuts nothing.
+-- Assumes nothing.
 use Prim.Native.Nat.{ℕ, _+_, _/_, _%_, _≤_}
 use mathlib.Core.Path.{_≡_, refl, sym, ap, _∙_}
 use mathlib.Core.Bool.{Bool, true}

@@ -1,6 +1,6 @@
 -- What a handle is to see, from the calls made and the numbers answered alone, and what it is that an answer shows it. Document 01,
 -- 'Demands', the third. Assumes nothing.
-use Prim.Native.Nat.{ℕ}
+use Prim.Native.Nat.{ℕ, _≤_, _<_}
 use mathlib.Core.Path.{_≡_}
 use mathlib.Core.Bool.{true}
 use mathlib.Core.Option.{Option, none, some}
@@ -14,8 +14,10 @@ use Rattle.recovery.specs.declared.request.Changed.the-variants as Change
 use Rattle.bitcask.specs.declared.answers.Located.{Located}
 use Rattle.bitcask.specs.declared.answers.Located.the-variants as Got
 use Rattle.handle.specs.declared.handle.Handle.{Handle}
+use Rattle.handle.specs.Handles.{rising}
 use Rattle.txn.specs.declared.begun.Begun.{Begun}
-use Rattle.history.specs.History.{Key, Bytes, After, Clash, opened, status, lastWrite, over, laid, past}
+use Rattle.mvcc_begin.specs.declared.status.Versions.{Versions}
+use Rattle.history.specs.History.{Key, Bytes, After, Clash, unborn, opened, status, isIn, isOpen, lastWrite, over, laid, past}
 use Rattle.isolation.specs.World.{begins, beginsReading, beginsAsOf, Calls, Gave, meaning}
 
 -- the handle may be used after the calls T: it is read-only, or its transaction is open
@@ -47,3 +49,12 @@ pub data Meets (T : Calls) (h : Handle) (k : Key) (room r : Changed) : Type 0 wh
 abbrev pub sizeIn : Option Bytes → ℕ
 sizeIn none = 0
 sizeIn (some v) = length v
+
+-- what the status tells: the last version that began, and how many versions are open
+pub record Tells (T : Calls) (s : Versions) : Type 0 where
+  pub began : (v : ℕ) → v ≢ 0 → v ≤ s .last → status (meaning T) v ≢ unborn
+  pub none-past : (v : ℕ) → s .last < v → status (meaning T) v ≡ unborn
+  pub versions : List ℕ
+  pub rises : rising versions ≡ true
+  pub are-open : (v : ℕ) → isIn v versions ≡ isOpen (status (meaning T) v)
+  pub counted : s .«open» ≡ length versions
