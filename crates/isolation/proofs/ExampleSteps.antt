@@ -6,15 +6,15 @@ use mathlib.Core.Bool.{true, false}
 use mathlib.Core.Option.{some}
 use mathlib.Core.List.{List, [], _∷_}
 use native.Mathlib.Omega.{arith}
-use lib.ListN.{replicate, drop}
+use lib.ListN.{length, drop, replicate}
 use Rattle.keycode.specs.Buffer.{put}
 use Rattle.keycode.specs.Number.{be, num, numFrom}
 use Rattle.keycode.specs.Order.{compareBytes, compareNat}
 use Rattle.keycode.specs.Strings.{escape, escapeBody, escapeByte, scanned}
 use Rattle.keycode.specs.declared.refusal.Refusal.the-variants.{Absent, Conflict}
 use Rattle.keycode.proofs.Basics.{nope}
-use Rattle.keys.specs.Keys.{encode, nextVersion, txnActive, txnActiveSnapshot, txnWrite, version, decodeWhy, keyOf as readKey, stringAt, onEnded, exactly}
-use Rattle.entry.specs.Entry.{set, del, bytesOf}
+use Rattle.keys.specs.Keys.{decodeWhy, keyOf as readKey, stringAt, onEnded, exactly}
+use Rattle.entry.specs.Entry.{bytesOf}
 use Rattle.entry.specs.Length.{signedOf, lenOf, lengthOf}
 use Rattle.entry.specs.Reading.{wordAt, headAt, entryAt}
 use Rattle.keydir.specs.Slots.{tableOf, wordsOf, keyOf, valueOf, insertAt, replaceAt, removeAt}
@@ -41,7 +41,7 @@ use Rattle.txn.specs.Ranges.{pairsOf, begins, inside, keep}
 use Rattle.txn.specs.Looks.{liveIn}
 use Rattle.txn.specs.Checks.{openBy, ownVersion, admitBy}
 use Rattle.mvcc_begin.specs.Active.{nextAt, nextOf, activeAt, activeKeys, activeIn, versionsIn, keysOf}
-use Rattle.mvcc_begin.specs.Plan.{planOf, planBy, snapshotBy}
+use Rattle.mvcc_begin.specs.Plan.{planBy, snapshotBy}
 use Rattle.mvcc_begin.specs.Begins.{snapshotRead}
 use Rattle.mvcc_begin.specs.Promises.{Begins, BeginsAsOf}
 use Rattle.mvcc_read.specs.Seen.{lastSeen, seenIn, valueSays}
@@ -168,11 +168,12 @@ table₆ = 82 ∷ 1 ∷ 8 ∷ 18 ∷ 9 ∷ 0 ∷ 124 ∷ 9 ∷ 0 ∷ 35 ∷ 9 �
 at-length : (P : ℕ → Type 0) {n : ℕ} {u : Used} → done n ≡ Done u → P n → P (u .len)
 at-length P {n} {u} e p = let q : n ≡ u .len = cc in subst P q p
 
--- what the contracts admit, in the order of the run
+-- what the contracts admit, in the order of the run; and the room that the first set finds
 pub record Contracts : Type 0 where
   pub opens₁ : Opens blank 0 free (done 0) free
   pub begins₁ : Begins blank 0 free (begunWith 34 h₁) log₁ table₁
   pub sets₁ : Writes log₁ 34 table₁ h₁ a (valueBytes (some x)) 1 (done 76) log₂ table₂
+  pub room₁ : appendAnswer log₁ 34 (length table₁) (plan 1 a (valueBytes (some x))) ≡ done 76
   pub begins₂ : Begins log₂ 76 table₂ (begunWith 135 h₂) log₃ table₃
   pub sets₂ : Writes log₃ 135 table₃ h₂ a (valueBytes (some y)) 1 (Refused Conflict) log₃ table₃
   pub commits₁ : Commits log₃ 135 table₃ h₁ (done 172) log₄ table₄
@@ -214,6 +215,7 @@ contracts =
             early = record { bad = refl; readOnly = refl; notOpen = refl; keyLong = refl; valueLong = refl };
             answer = λ g. refl;
           };
+      room₁ = refl;
       begins₂ =
           record {
             bytes = refl;
