@@ -2,37 +2,43 @@
 -- compacted and opened again, version 3 begins, and two looks go back. The run is one that the theorems of proofs/Isolation are about, and
 -- what they say of it is what a reader expects. Assumes nothing.
 use Prim.Native.Nat.{ℕ}
-use mathlib.Core.Path.{_≡_, refl, subst}
+use mathlib.Core.Path.{_≡_, refl, subst, _∙_}
 use mathlib.Core.Bool.{true}
 use mathlib.Core.Option.{none, some}
 use mathlib.Core.Logic.{inl, inr}
 use mathlib.Core.List.{List, [], _∷_}
 use native.Mathlib.Decide.{ℕ-discrete}
 use native.Mathlib.Omega.{arith}
-use Rattle.keycode.specs.declared.refusal.Refusal.the-variants.{Absent, Conflict}
+use lib.ListN.{length}
+use Rattle.keycode.specs.declared.refusal.Refusal.the-variants.{Absent, NotOpen, Conflict}
 use Rattle.keycode.proofs.Basics.{nope}
 use Rattle.recovery.specs.declared.request.Changed.{Changed}
 use Rattle.recovery.specs.declared.request.Changed.the-variants.{Refused}
 use Rattle.bitcask.specs.declared.answers.Located.{Located}
 use Rattle.bitcask.specs.declared.answers.Located.the-variants as Got
+use Rattle.bitcask.specs.Append.{appendAnswer}
 use Rattle.handle.specs.declared.handle.Handle.{Handle}
 use Rattle.handle.specs.Handles.{handleOf}
 use Rattle.handle.specs.Payloads.{valueBytes}
 use Rattle.txn.specs.Given.{begunWith}
 use Rattle.mvcc_read.specs.Promises.{Gets}
+use Rattle.mvcc_write.specs.Writes.{plan}
 use Rattle.mvcc_write.specs.Promises.{Writes}
-use Rattle.history.specs.History.{Key, key≟, After, now, later, Clash, status, lastWrite, laid, past}
+use Rattle.history.specs.History.{key≟, now, later, Clash, status, lastWrite, laid, past}
 use Rattle.history.specs.Run.{events}
 use Rattle.isolation.specs.World.{World, Call, Step, opens, compacts, begins, beginsAsOf, gets, sets, commits, Calls, compacting, beginning, beginningAsOf, getting, setting, committing, Given, by-begin, by-asOf, handleIn, Fair, Run, first, opened, called, traceOf, meaning}
-use Rattle.isolation.specs.Views.{Sees, writer, asOf, Shows, Meets, clashes, free}
+use Rattle.isolation.specs.Views.{writer, asOf, Shows, Meets, clashes, free}
 use Rattle.isolation.proofs.ExampleSteps as Steps
-use Rattle.isolation.proofs.ExampleSteps.{done, a, x, y, h₁, h₂, h₃, back₂, back₃, found, blank, log₃, log₅, log₆, table₃, table₅, table₆, contracts}
-use Rattle.isolation.proofs.Isolation.{get-shows, write-conflicts}
+use Rattle.isolation.proofs.ExampleSteps.{done, a, x, y, h₁, h₂, h₃, back₂, back₃, found, blank, log₁, log₃, log₅, log₆, table₁, table₃, table₅, table₆, contracts}
+use Rattle.isolation.proofs.Isolation.{get-shows, write-conflicts, over-gets}
 
 -- ---- the calls, the latest first
 
+abbrev pub T₁ : Calls
+T₁ = begins (begunWith 34 h₁) ∷ opens (done 0) ∷ []
+
 abbrev pub T₃ : Calls
-T₃ = begins (begunWith 135 h₂) ∷ sets h₁ a x (done 76) ∷ begins (begunWith 34 h₁) ∷ opens (done 0) ∷ []
+T₃ = begins (begunWith 135 h₂) ∷ sets h₁ a x (done 76) ∷ T₁
 
 abbrev pub T₅ : Calls
 T₅ = opens (done 81) ∷ compacts (done 81) ∷ commits h₁ (done 172) ∷ sets h₂ a y (Refused Conflict) ∷ T₃
@@ -54,12 +60,16 @@ module _ {w w′ : World} {T : Calls} (R : Run true w T) (c : Call) where
   callsBy : {h : Handle} → handleIn c ≡ some h → Given h T → Step w c w′ → Run true w′ (c ∷ T)
   callsBy {h} e g s = let f : Fair c T = λ j q. let z : h ≡ j = cc in subst (λ (i : Handle). Given i T) z g in called R f s
 
--- opened; 1 begins and sets the key to x; 2 begins
+-- opened; 1 begins
+pub run₁ : Run true (record { log = log₁; used = 34; table = table₁ }) T₁
+run₁ =
+    let r₀ = first blank Steps.free (contracts .opens₁) in
+    calls r₀ (begins (begunWith 34 h₁)) refl (beginning (contracts .begins₁))
+
+-- 1 sets the key to x; 2 begins
 pub run₃ : Run true (record { log = log₃; used = 135; table = table₃ }) T₃
 run₃ =
-    let r₀ = first blank Steps.free (contracts .opens₁) in
-    let r₁ = calls r₀ (begins (begunWith 34 h₁)) refl (beginning (contracts .begins₁)) in
-    let r₂ = callsBy r₁ (sets h₁ a x (done 76)) refl (by-begin now (refl, refl)) (setting (contracts .sets₁)) in
+    let r₂ = callsBy run₁ (sets h₁ a x (done 76)) refl (by-begin now (refl, refl)) (setting (contracts .sets₁)) in
     calls r₂ (begins (begunWith 135 h₂)) refl (beginning (contracts .begins₂))
 
 -- 2's set of the key is refused; 1 commits; the log is compacted, and opened again
@@ -86,6 +96,15 @@ run₇ =
     callsBy r₈ (gets back₃ a found) refl (by-asOf (later (later (later now))) (refl, refl)) (getting (contracts .getsBack₃))
 
 -- ---- what the theorems say of it: whatever answer a contract admits there
+
+-- 1's set of the key: no other transaction wrote it, and there is room
+pub first-sets : {r : Changed} {log t : List ℕ} → Writes log₁ 34 table₁ h₁ a (valueBytes (some x)) 1 r log t → r ≡ done 76
+unfolding traceOf events status lastWrite ℕ-discrete handleOf
+first-sets b = met (write-conflicts run₁ now (refl, refl) refl (omega arith) (some x) (omega arith) b)
+  where
+    met : {r : Changed} → Meets T₁ h₁ a (appendAnswer log₁ 34 (length table₁) (plan 1 a (valueBytes (some x)))) r → r ≡ done 76
+    met (clashes c e) = absurd (c .writes refl)
+    met (free n e) = e ∙ contracts .room₁
 
 -- 1 wrote the key and is open
 clash : Clash (meaning T₃) 2 a
@@ -119,3 +138,8 @@ back-second-gets b = get-shows run₆ (asOf (later now) (refl, refl) (λ e. absu
 pub back-third-gets : {r : Located} → Gets log₆ 140 table₆ back₃ a r → Shows log₆ r (some x)
 unfolding traceOf events lastWrite laid past ℕ-discrete key≟ handleOf
 back-third-gets b = get-shows run₆ (asOf now (refl, refl) (λ e. absurd (omega arith)) (λ k. refl)) (inl refl) (omega arith) b
+
+-- 1's handle, since its commit
+pub first-over : {r : Located} → Gets log₆ 140 table₆ h₁ a r → r ≡ Got.Refused NotOpen
+unfolding traceOf events status ℕ-discrete handleOf
+first-over b = over-gets run₆ (later (later (later (later (later (later (later (later (later now))))))))) (refl, refl) (λ e. nope (cc)) b

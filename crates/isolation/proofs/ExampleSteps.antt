@@ -6,15 +6,15 @@ use mathlib.Core.Bool.{true, false}
 use mathlib.Core.Option.{some}
 use mathlib.Core.List.{List, [], _∷_}
 use native.Mathlib.Omega.{arith}
-use lib.ListN.{replicate, drop}
+use lib.ListN.{length, drop, replicate}
 use Rattle.keycode.specs.Buffer.{put}
 use Rattle.keycode.specs.Number.{be, num, numFrom}
 use Rattle.keycode.specs.Order.{compareBytes, compareNat}
 use Rattle.keycode.specs.Strings.{escape, escapeBody, escapeByte, scanned}
 use Rattle.keycode.specs.declared.refusal.Refusal.the-variants.{Absent, Conflict}
 use Rattle.keycode.proofs.Basics.{nope}
-use Rattle.keys.specs.Keys.{encode, nextVersion, txnActive, txnActiveSnapshot, txnWrite, version, decodeWhy, keyOf as readKey, stringAt, onEnded, exactly}
-use Rattle.entry.specs.Entry.{set, del, bytesOf}
+use Rattle.keys.specs.Keys.{decodeWhy, keyOf as readKey, stringAt, onEnded, exactly}
+use Rattle.entry.specs.Entry.{bytesOf}
 use Rattle.entry.specs.Length.{signedOf, lenOf, lengthOf}
 use Rattle.entry.specs.Reading.{wordAt, headAt, entryAt}
 use Rattle.keydir.specs.Slots.{tableOf, wordsOf, keyOf, valueOf, insertAt, replaceAt, removeAt}
@@ -41,7 +41,7 @@ use Rattle.txn.specs.Ranges.{pairsOf, begins, inside, keep}
 use Rattle.txn.specs.Looks.{liveIn}
 use Rattle.txn.specs.Checks.{openBy, ownVersion, admitBy}
 use Rattle.mvcc_begin.specs.Active.{nextAt, nextOf, activeAt, activeKeys, activeIn, versionsIn, keysOf}
-use Rattle.mvcc_begin.specs.Plan.{planOf, planBy, snapshotBy}
+use Rattle.mvcc_begin.specs.Plan.{planBy, snapshotBy}
 use Rattle.mvcc_begin.specs.Begins.{snapshotRead}
 use Rattle.mvcc_begin.specs.Promises.{Begins, BeginsAsOf}
 use Rattle.mvcc_read.specs.Seen.{lastSeen, seenIn, valueSays}
@@ -92,44 +92,72 @@ blank = replicate {A = ℕ} 180 0
 unfoldable pub free : List ℕ
 free = replicate {A = ℕ} 24 0
 
--- version 1 began
+-- version 1 began: the next is 2, 1 is open
 unfoldable pub log₁ : List ℕ
-log₁ = put blank 0 (bytesAll (set (encode nextVersion) (be 8 2) ∷ set (encode (txnActive 1)) [] ∷ []))
+log₁ =
+    put blank 0
+    (0 ∷ 0 ∷ 0 ∷ 1 ∷ 0 ∷ 0 ∷ 0 ∷ 8 ∷ 0 ∷ 0 ∷ 0 ∷ 0 ∷ 0 ∷ 0 ∷ 0 ∷ 0 ∷ 2
+    ∷ 0 ∷ 0 ∷ 0 ∷ 9 ∷ 0 ∷ 0 ∷ 0 ∷ 0 ∷ 1 ∷ 0 ∷ 0 ∷ 0 ∷ 0 ∷ 0 ∷ 0 ∷ 0 ∷ 1
+    ∷ [])
 
 unfoldable pub table₁ : List ℕ
 table₁ = 1 ∷ 1 ∷ 8 ∷ 18 ∷ 9 ∷ 0 ∷ replicate {A = ℕ} 18 0
 
--- it set the key to x
+-- it set the key to x: 1 wrote the key, and its value at version 1
 unfoldable pub log₂ : List ℕ
-log₂ = put log₁ 34 (bytesAll (set (encode (txnWrite 1 a)) [] ∷ set (encode (version a 1)) (1 ∷ x) ∷ []))
+log₂ =
+    put log₁ 34
+    (0 ∷ 0 ∷ 0 ∷ 12 ∷ 0 ∷ 0 ∷ 0 ∷ 0 ∷ 3 ∷ 0 ∷ 0 ∷ 0 ∷ 0 ∷ 0 ∷ 0 ∷ 0 ∷ 1 ∷ 97 ∷ 0 ∷ 0
+    ∷ 0 ∷ 0 ∷ 0 ∷ 12 ∷ 0 ∷ 0 ∷ 0 ∷ 2 ∷ 4 ∷ 97 ∷ 0 ∷ 0 ∷ 0 ∷ 0 ∷ 0 ∷ 0 ∷ 0 ∷ 0 ∷ 0 ∷ 1 ∷ 1 ∷ 120
+    ∷ [])
 
 unfoldable pub table₂ : List ℕ
 table₂ = 1 ∷ 1 ∷ 8 ∷ 18 ∷ 9 ∷ 0 ∷ 35 ∷ 12 ∷ 0 ∷ 55 ∷ 12 ∷ 2 ∷ replicate {A = ℕ} 12 0
 
--- version 2 began, and keeps that 1 was open
+-- version 2 began: the next is 3, 1 was open then, 2 is open
 unfoldable pub log₃ : List ℕ
-log₃ = put log₂ 76 (bytesAll (set (encode nextVersion) (be 8 3) ∷ set (encode (txnActiveSnapshot 2)) (be 8 1) ∷ set (encode (txnActive 2)) [] ∷ []))
+log₃ =
+    put log₂ 76
+    (0 ∷ 0 ∷ 0 ∷ 1 ∷ 0 ∷ 0 ∷ 0 ∷ 8 ∷ 0 ∷ 0 ∷ 0 ∷ 0 ∷ 0 ∷ 0 ∷ 0 ∷ 0 ∷ 3
+    ∷ 0 ∷ 0 ∷ 0 ∷ 9 ∷ 0 ∷ 0 ∷ 0 ∷ 8 ∷ 2 ∷ 0 ∷ 0 ∷ 0 ∷ 0 ∷ 0 ∷ 0 ∷ 0 ∷ 2 ∷ 0 ∷ 0 ∷ 0 ∷ 0 ∷ 0 ∷ 0 ∷ 0 ∷ 1
+    ∷ 0 ∷ 0 ∷ 0 ∷ 9 ∷ 0 ∷ 0 ∷ 0 ∷ 0 ∷ 1 ∷ 0 ∷ 0 ∷ 0 ∷ 0 ∷ 0 ∷ 0 ∷ 0 ∷ 2
+    ∷ [])
 
 unfoldable pub table₃ : List ℕ
 table₃ = 77 ∷ 1 ∷ 8 ∷ 18 ∷ 9 ∷ 0 ∷ 119 ∷ 9 ∷ 0 ∷ 94 ∷ 9 ∷ 8 ∷ 35 ∷ 12 ∷ 0 ∷ 55 ∷ 12 ∷ 2 ∷ replicate {A = ℕ} 6 0
 
--- version 1 committed
+-- version 1 committed: its write is settled, it is not open; the value stays
 unfoldable pub log₄ : List ℕ
-log₄ = put log₃ 135 (bytesAll (del (encode (txnWrite 1 a)) ∷ del (encode (txnActive 1)) ∷ []))
+log₄ =
+    put log₃ 135
+    (0 ∷ 0 ∷ 0 ∷ 12 ∷ 255 ∷ 255 ∷ 255 ∷ 255 ∷ 3 ∷ 0 ∷ 0 ∷ 0 ∷ 0 ∷ 0 ∷ 0 ∷ 0 ∷ 1 ∷ 97 ∷ 0 ∷ 0
+    ∷ 0 ∷ 0 ∷ 0 ∷ 9 ∷ 255 ∷ 255 ∷ 255 ∷ 255 ∷ 1 ∷ 0 ∷ 0 ∷ 0 ∷ 0 ∷ 0 ∷ 0 ∷ 0 ∷ 1
+    ∷ [])
 
 unfoldable pub table₄ : List ℕ
 table₄ = 77 ∷ 1 ∷ 8 ∷ 119 ∷ 9 ∷ 0 ∷ 94 ∷ 9 ∷ 8 ∷ 55 ∷ 12 ∷ 2 ∷ replicate {A = ℕ} 12 0
 
--- compacted into another buffer
+-- compacted into another buffer: the entries that count, in key order
 unfoldable pub log₅ : List ℕ
-log₅ = put blank 0 (bytesAll (set (encode nextVersion) (be 8 3) ∷ set (encode (txnActive 2)) [] ∷ set (encode (txnActiveSnapshot 2)) (be 8 1) ∷ set (encode (version a 1)) (1 ∷ x) ∷ []))
+log₅ =
+    put blank 0
+    (0 ∷ 0 ∷ 0 ∷ 1 ∷ 0 ∷ 0 ∷ 0 ∷ 8 ∷ 0 ∷ 0 ∷ 0 ∷ 0 ∷ 0 ∷ 0 ∷ 0 ∷ 0 ∷ 3
+    ∷ 0 ∷ 0 ∷ 0 ∷ 9 ∷ 0 ∷ 0 ∷ 0 ∷ 0 ∷ 1 ∷ 0 ∷ 0 ∷ 0 ∷ 0 ∷ 0 ∷ 0 ∷ 0 ∷ 2
+    ∷ 0 ∷ 0 ∷ 0 ∷ 9 ∷ 0 ∷ 0 ∷ 0 ∷ 8 ∷ 2 ∷ 0 ∷ 0 ∷ 0 ∷ 0 ∷ 0 ∷ 0 ∷ 0 ∷ 2 ∷ 0 ∷ 0 ∷ 0 ∷ 0 ∷ 0 ∷ 0 ∷ 0 ∷ 1
+    ∷ 0 ∷ 0 ∷ 0 ∷ 12 ∷ 0 ∷ 0 ∷ 0 ∷ 2 ∷ 4 ∷ 97 ∷ 0 ∷ 0 ∷ 0 ∷ 0 ∷ 0 ∷ 0 ∷ 0 ∷ 0 ∷ 0 ∷ 1 ∷ 1 ∷ 120
+    ∷ [])
 
 unfoldable pub table₅ : List ℕ
 table₅ = 1 ∷ 1 ∷ 8 ∷ 18 ∷ 9 ∷ 0 ∷ 35 ∷ 9 ∷ 8 ∷ 60 ∷ 12 ∷ 2 ∷ replicate {A = ℕ} 12 0
 
--- version 3 began, and keeps that 2 was open
+-- version 3 began: the next is 4, 2 was open then, 3 is open
 unfoldable pub log₆ : List ℕ
-log₆ = put log₅ 81 (bytesAll (set (encode nextVersion) (be 8 4) ∷ set (encode (txnActiveSnapshot 3)) (be 8 2) ∷ set (encode (txnActive 3)) [] ∷ []))
+log₆ =
+    put log₅ 81
+    (0 ∷ 0 ∷ 0 ∷ 1 ∷ 0 ∷ 0 ∷ 0 ∷ 8 ∷ 0 ∷ 0 ∷ 0 ∷ 0 ∷ 0 ∷ 0 ∷ 0 ∷ 0 ∷ 4
+    ∷ 0 ∷ 0 ∷ 0 ∷ 9 ∷ 0 ∷ 0 ∷ 0 ∷ 8 ∷ 2 ∷ 0 ∷ 0 ∷ 0 ∷ 0 ∷ 0 ∷ 0 ∷ 0 ∷ 3 ∷ 0 ∷ 0 ∷ 0 ∷ 0 ∷ 0 ∷ 0 ∷ 0 ∷ 2
+    ∷ 0 ∷ 0 ∷ 0 ∷ 9 ∷ 0 ∷ 0 ∷ 0 ∷ 0 ∷ 1 ∷ 0 ∷ 0 ∷ 0 ∷ 0 ∷ 0 ∷ 0 ∷ 0 ∷ 3
+    ∷ [])
 
 unfoldable pub table₆ : List ℕ
 table₆ = 82 ∷ 1 ∷ 8 ∷ 18 ∷ 9 ∷ 0 ∷ 124 ∷ 9 ∷ 0 ∷ 35 ∷ 9 ∷ 8 ∷ 99 ∷ 9 ∷ 8 ∷ 60 ∷ 12 ∷ 2 ∷ replicate {A = ℕ} 6 0
@@ -140,11 +168,12 @@ table₆ = 82 ∷ 1 ∷ 8 ∷ 18 ∷ 9 ∷ 0 ∷ 124 ∷ 9 ∷ 0 ∷ 35 ∷ 9 �
 at-length : (P : ℕ → Type 0) {n : ℕ} {u : Used} → done n ≡ Done u → P n → P (u .len)
 at-length P {n} {u} e p = let q : n ≡ u .len = cc in subst P q p
 
--- what the contracts admit, in the order of the run
+-- what the contracts admit, in the order of the run; and the room that the first set finds
 pub record Contracts : Type 0 where
   pub opens₁ : Opens blank 0 free (done 0) free
   pub begins₁ : Begins blank 0 free (begunWith 34 h₁) log₁ table₁
   pub sets₁ : Writes log₁ 34 table₁ h₁ a (valueBytes (some x)) 1 (done 76) log₂ table₂
+  pub room₁ : appendAnswer log₁ 34 (length table₁) (plan 1 a (valueBytes (some x))) ≡ done 76
   pub begins₂ : Begins log₂ 76 table₂ (begunWith 135 h₂) log₃ table₃
   pub sets₂ : Writes log₃ 135 table₃ h₂ a (valueBytes (some y)) 1 (Refused Conflict) log₃ table₃
   pub commits₁ : Commits log₃ 135 table₃ h₁ (done 172) log₄ table₄
@@ -186,6 +215,7 @@ contracts =
             early = record { bad = refl; readOnly = refl; notOpen = refl; keyLong = refl; valueLong = refl };
             answer = λ g. refl;
           };
+      room₁ = refl;
       begins₂ =
           record {
             bytes = refl;
