@@ -1,7 +1,7 @@
 -- Snapshot isolation: the theorems, over every run of the store by what its public calls state. Each names the world that the run has
 -- come to, and a call that the contract admits there; what it says is read off the calls and the numbers answered alone. The definitions
--- are in specs/World (runs), specs/Views (what a handle is to see) and history's specs/History (open, committed, laid down). Assumes
--- nothing.
+-- are in specs/World (runs), specs/Views (what a handle is to see) and history's specs/History (open, committed, laid down). S1 to S8
+-- number the sentences of the third demand, as docs/PROMISES.md has them. Assumes nothing.
 use Prim.Native.Nat.{ℕ, _≤_, _%_}
 use mathlib.Core.Path.{_≡_, refl}
 use mathlib.Core.Bool.{Bool, true}
