@@ -28,8 +28,7 @@ use Rattle.history.specs.History.{key≟, now, later, Clash, status, lastWrite,
 use Rattle.history.specs.Run.{events}
 use Rattle.isolation.specs.World.{World, Call, Step, opens, compacts, begins, beginsAsOf, gets, sets, commits, Calls, compacting, beginning, beginningAsOf, getting, setting, committing, Given, by-begin, by-asOf, handleIn, Fair, Run, first, opened, called, traceOf, meaning}
 use Rattle.isolation.specs.Views.{writer, asOf, Shows, Meets, clashes, free}
-use Rattle.isolation.proofs.ExampleSteps as Steps
-use Rattle.isolation.proofs.ExampleSteps.{done, a, x, y, h₁, h₂, h₃, back₂, back₃, found, blank, log₁, log₃, log₅, log₆, table₁, table₃, table₅, table₆, contracts}
+use Rattle.isolation.proofs.ExampleSteps.{done, a, x, y, h₁, h₂, h₃, back₂, back₃, found, blank, vacant, log₁, log₃, log₅, log₆, table₁, table₃, table₅, table₆, contracts}
 use Rattle.isolation.proofs.Isolation.{get-shows, write-conflicts, over-gets}
 
 -- ---- the calls, the latest first
@@ -63,7 +62,7 @@ module _ {w w′ : World} {T : Calls} (R : Run true w T) (c : Call) where
 -- opened; 1 begins
 pub run₁ : Run true (record { log = log₁; used = 34; table = table₁ }) T₁
 run₁ =
-    let r₀ = first blank Steps.free (contracts .opens₁) in
+    let r₀ = first blank vacant (contracts .opens₁) in
     calls r₀ (begins (begunWith 34 h₁)) refl (beginning (contracts .begins₁))
 
 -- 1 sets the key to x; 2 begins
@@ -78,7 +77,7 @@ run₅ =
     let r₃ = callsBy run₃ (sets h₂ a y (Refused Conflict)) refl (by-begin now (refl, refl)) (setting (contracts .sets₂)) in
     let r₄ = callsBy r₃ (commits h₁ (done 172)) refl (by-begin (later (later (later now))) (refl, refl)) (committing (contracts .commits₁)) in
     let r₅ = calls r₄ (compacts (done 81)) refl (compacting blank (contracts .compacts₁)) in
-    opened r₅ Steps.free (contracts .opens₂)
+    opened r₅ vacant (contracts .opens₂)
 
 -- 3 begins; two look back, to 2 and to 3
 pub run₆ : Run true (record { log = log₆; used = 140; table = table₆ }) T₆
@@ -108,7 +107,7 @@ first-sets b = met (write-conflicts run₁ now (refl, refl) refl (omega arith) (
 
 -- 1 wrote the key and is open
 clash : Clash (meaning T₃) 2 a
-unfolding traceOf events status lastWrite ℕ-discrete key≟ handleOf
+unfolding traceOf events status lastWrite key≟ handleOf
 clash = record { other = 1; differs = λ e. absurd (omega arith); writes = λ e. nope (cc); late = inl refl }
 
 -- 2's set of the key: Conflict
@@ -122,21 +121,21 @@ second-conflicts b = met (write-conflicts run₃ now (refl, refl) refl (omega ar
 
 -- 3's get: 1 had committed before 3 began
 pub third-gets : {r : Located} → Gets log₆ 140 table₆ h₃ a r → Shows log₆ r (some x)
-unfolding traceOf events status lastWrite laid ℕ-discrete key≟ handleOf
+unfolding traceOf events status lastWrite laid key≟ handleOf
 third-gets b = get-shows run₆ (writer (later (later now)) (refl, refl) (λ k. refl)) (inr refl) (omega arith) b
 
 -- 2's get: 1 was open when 2 began, whatever came after
 pub second-gets : {r : Located} → Gets log₆ 140 table₆ h₂ a r → Shows log₆ r none
-unfolding traceOf events status lastWrite laid ℕ-discrete key≟ handleOf
+unfolding traceOf events status lastWrite laid ℕ-discrete handleOf
 second-gets b = get-shows run₆ (writer (later (later (later (later (later (later (later now))))))) (refl, refl) (λ k. refl)) (inr refl) (omega arith) b
 
 -- the look back to 2 shows what 2 saw as it began, that to 3 what 3 saw
 pub back-second-gets : {r : Located} → Gets log₆ 140 table₆ back₂ a r → Shows log₆ r none
-unfolding traceOf events lastWrite laid past ℕ-discrete key≟ handleOf
+unfolding traceOf events laid past ℕ-discrete handleOf
 back-second-gets b = get-shows run₆ (asOf (later now) (refl, refl) (λ e. absurd (omega arith)) (λ k. refl)) (inl refl) (omega arith) b
 
 pub back-third-gets : {r : Located} → Gets log₆ 140 table₆ back₃ a r → Shows log₆ r (some x)
-unfolding traceOf events lastWrite laid past ℕ-discrete key≟ handleOf
+unfolding traceOf events lastWrite laid past key≟ handleOf
 back-third-gets b = get-shows run₆ (asOf now (refl, refl) (λ e. absurd (omega arith)) (λ k. refl)) (inl refl) (omega arith) b
 
 -- 1's handle, since its commit

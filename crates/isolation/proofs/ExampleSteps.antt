@@ -8,14 +8,14 @@ use mathlib.Core.List.{List, [], _∷_}
 use native.Mathlib.Omega.{arith}
 use lib.ListN.{length, drop, replicate}
 use Rattle.keycode.specs.Buffer.{put}
-use Rattle.keycode.specs.Number.{be, num, numFrom}
+use Rattle.keycode.specs.Number.{be, num}
 use Rattle.keycode.specs.Order.{compareBytes, compareNat}
 use Rattle.keycode.specs.Strings.{escape, escapeBody, escapeByte, scanned}
 use Rattle.keycode.specs.declared.refusal.Refusal.the-variants.{Absent, Conflict}
 use Rattle.keycode.proofs.Basics.{nope}
 use Rattle.keys.specs.Keys.{decodeWhy, keyOf as readKey, stringAt, onEnded, exactly}
 use Rattle.entry.specs.Entry.{bytesOf}
-use Rattle.entry.specs.Length.{signedOf, lenOf, lengthOf}
+use Rattle.entry.specs.Length.{lengthOf}
 use Rattle.entry.specs.Reading.{wordAt, headAt, entryAt}
 use Rattle.keydir.specs.Slots.{tableOf, wordsOf, keyOf, valueOf, insertAt, replaceAt, removeAt}
 use Rattle.keydir.specs.Place.{placeIn}
@@ -32,7 +32,7 @@ use Rattle.bitcask.specs.Append.{sizeAll, bytesAll, afterAll, appendAnswer}
 use Rattle.compaction.specs.Compaction.{entriesOf}
 use Rattle.compaction.specs.Promises.{Compacts}
 use Rattle.handle.specs.declared.handle.Handle.{Handle}
-use Rattle.handle.specs.Handles.{handleOf, setOf, soundHandle, rising, risingFrom, sees, memb, lowestOf, firstOr}
+use Rattle.handle.specs.Handles.{handleOf, setOf, soundHandle, rising, sees, memb, lowestOf, firstOr}
 use Rattle.handle.specs.Payloads.{setBytes, setIn, versionsOf, setFor, versionIn, valueBytes, valueIn}
 use Rattle.tombs.specs.Cuts.{Extends}
 use Rattle.tombs.specs.Plans.{cutsOf}
@@ -89,8 +89,8 @@ found = Got.At (record { at = 80; len = 1 })
 unfoldable pub blank : List ℕ
 blank = replicate {A = ℕ} 180 0
 
-unfoldable pub free : List ℕ
-free = replicate {A = ℕ} 24 0
+unfoldable pub vacant : List ℕ
+vacant = replicate {A = ℕ} 24 0
 
 -- version 1 began: the next is 2, 1 is open
 unfoldable pub log₁ : List ℕ
@@ -170,15 +170,15 @@ at-length P {n} {u} e p = let q : n ≡ u .len = cc in subst P q p
 
 -- what the contracts admit, in the order of the run; and the room that the first set finds
 pub record Contracts : Type 0 where
-  pub opens₁ : Opens blank 0 free (done 0) free
-  pub begins₁ : Begins blank 0 free (begunWith 34 h₁) log₁ table₁
+  pub opens₁ : Opens blank 0 vacant (done 0) vacant
+  pub begins₁ : Begins blank 0 vacant (begunWith 34 h₁) log₁ table₁
   pub sets₁ : Writes log₁ 34 table₁ h₁ a (valueBytes (some x)) 1 (done 76) log₂ table₂
   pub room₁ : appendAnswer log₁ 34 (length table₁) (plan 1 a (valueBytes (some x))) ≡ done 76
   pub begins₂ : Begins log₂ 76 table₂ (begunWith 135 h₂) log₃ table₃
   pub sets₂ : Writes log₃ 135 table₃ h₂ a (valueBytes (some y)) 1 (Refused Conflict) log₃ table₃
   pub commits₁ : Commits log₃ 135 table₃ h₁ (done 172) log₄ table₄
   pub compacts₁ : Compacts log₄ 172 table₄ blank (done 81) table₅ log₅
-  pub opens₂ : Opens log₅ 81 free (done 81) table₅
+  pub opens₂ : Opens log₅ 81 vacant (done 81) table₅
   pub begins₃ : Begins log₅ 81 table₅ (begunWith 140 h₃) log₆ table₆
   pub gets₃ : Gets log₆ 140 table₆ h₃ a found
   pub gets₂ : Gets log₆ 140 table₆ h₂ a (Got.Refused Absent)
@@ -188,12 +188,13 @@ pub record Contracts : Type 0 where
   pub getsBack₃ : Gets log₆ 140 table₆ back₃ a found
 
 pub contracts : Contracts
-unfolding blank free log₁ log₂ log₃ log₄ log₅ log₆ table₁ table₂ table₃ table₄ table₅ table₆ put be num numFrom compareBytes compareNat escape escapeBody escapeByte
-    scanned decodeWhy readKey stringAt onEnded exactly bytesOf signedOf lenOf lengthOf wordAt headAt entryAt tableOf wordsOf keyOf valueOf insertAt replaceAt removeAt placeIn
-    lookIn putIn cutIn after items itemsOf ends step fold recovered view mapOf stepIn run fit openAnswer openTable sizeAll bytesAll afterAll appendAnswer entriesOf
-    handleOf setOf soundHandle rising risingFrom sees memb lowestOf firstOr setBytes setIn versionsOf setFor versionIn valueBytes valueIn cutsOf pairsOf begins inside keep
-    liveIn openBy ownVersion admitBy nextAt nextOf activeAt activeKeys activeIn versionsIn keysOf planBy snapshotBy snapshotRead lastSeen seenIn valueSays getAnswer
-    plan allowBy sizesBy searchBy searched seenBytes writeAnswer mayWrite commitPlan writesOf commitAnswer among
+unfolding blank vacant log₁ log₂ log₃ log₄ log₅ log₆ table₁ table₂ table₃ table₄ table₅ table₆ put be num compareBytes compareNat escape escapeBody
+    escapeByte scanned decodeWhy readKey stringAt onEnded exactly bytesOf lengthOf wordAt headAt entryAt tableOf wordsOf keyOf valueOf insertAt
+    replaceAt removeAt placeIn lookIn putIn cutIn after items itemsOf ends step fold recovered view mapOf stepIn run fit openAnswer openTable sizeAll
+    bytesAll afterAll appendAnswer entriesOf handleOf setOf soundHandle rising sees memb lowestOf firstOr setBytes setIn versionsOf setFor versionIn
+    valueBytes valueIn cutsOf pairsOf begins inside keep liveIn openBy ownVersion admitBy nextAt nextOf activeAt activeKeys activeIn versionsIn keysOf
+    planBy snapshotBy snapshotRead lastSeen seenIn valueSays getAnswer plan allowBy sizesBy searchBy searched seenBytes writeAnswer mayWrite
+    commitPlan writesOf commitAnswer among
 contracts =
     record {
       opens₁ = record { answer = refl; table = refl };
