@@ -1,0 +1,2 @@
+-- The law of the parts that are lent.
+pub mod StoreLaws

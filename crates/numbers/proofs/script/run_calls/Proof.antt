@@ -1,0 +1,34 @@
+-- `run_calls` is safe and ends. The measure is how many turns are left.
+use borrow.Author.Needs.{needs}
+use Rattle.numbers.proofs.script.run_calls.Statement.{statement}
+use Rattle.numbers.proofs.script.run_calls.Tie as tie
+
+abbrev Inv-loop : tie.InvT-loop
+Inv-loop script at end before₀ after₀ i₀ turns₀ before after i turns = Unit {0}
+
+abbrev μ-loop : tie.MeasureT-loop
+μ-loop script at end before₀ after₀ i₀ turns₀ before after i turns = turns
+
+loop-holds : tie.Need-loop-holds Inv-loop μ-loop
+loop-holds c = tt
+
+loop-again : tie.Need-loop-again Inv-loop μ-loop
+loop-again c = tt
+
+pub run-calls-spec : {M : Type 1} → statement M
+run-calls-spec =
+    tie.close
+    (tie.spec
+    Inv-loop
+    μ-loop
+    loop-holds
+    (λ c. search needs)
+    (λ c κs. search needs)
+    (λ c κs. search needs)
+    (λ c κs. search needs)
+    (λ c κs. search needs)
+    (λ c κs. search needs)
+    (λ c. search needs)
+    (λ c. search needs)
+    loop-again
+    (λ c. search needs))
