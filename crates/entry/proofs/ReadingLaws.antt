@@ -124,11 +124,6 @@ part-within (suc o) zero n s h = absurd (omega arith)
 part-within (suc o) (suc used) n [] h = refl
 part-within (suc o) (suc used) n (x ∷ s) h = part-within o used n s (omega arith)
 
--- only the header counts
-announced : (log log′ : List ℕ) (used at : ℕ) → headAt log at ≡ headAt log′ at → entryAt log used at ≡ entryAt log′ used at
-unfolding entryAt
-announced log log′ used at e = rw e
-
 module _ (log log′ : List ℕ) (used : ℕ) (agree : take used log ≡ take used log′) where
   -- a part within those bytes is the same
   pub part-same : (o n : ℕ) → o + n ≤ used → take n (drop o log) ≡ take n (drop o log′)
@@ -138,13 +133,6 @@ module _ (log log′ : List ℕ) (used : ℕ) (agree : take used log ≡ take us
   head-same : (at : ℕ) → at + 8 ≤ used → headAt log at ≡ headAt log′ at
   unfolding headAt wordAt
   head-same at h = rw (part-same at 4 (omega arith), part-same (at + 4) 4 (omega arith))
-
-  pub entry-same : (at : ℕ) → entryAt log used at ≡ entryAt log′ used at
-  entry-same at = go (decLt used (at + 8))
-    where
-      go : Dec (used < at + 8) → entryAt log used at ≡ entryAt log′ used at
-      go (yes h) = entry-short log used at h ∙ sym (entry-short log′ used at h)
-      go (no g) = announced log log′ used at (head-same at (omega arith))
 
   -- what is whole stays the same entry where more bytes count
   pub entry-again : (used′ at : ℕ) → used ≤ used′ → (entryAt log used at ≡ Stop → ⊥) → entryAt log′ used′ at ≡ entryAt log used at
