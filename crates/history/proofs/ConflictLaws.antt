@@ -1,4 +1,5 @@
--- The search for a conflict looks at the highest stored version only, and that is enough.
+-- A write's search looks at the highest stored version alone, and that is enough: it is hidden exactly where another transaction clashes.
+-- Assumes nothing.
 use Prim.Native.Nat.{ℕ, suc, _≤_, _<_}
 use native.Mathlib.Omega.{arith}
 use mathlib.Core.Path.{_≡_, refl, sym, _∙_}

@@ -1,4 +1,4 @@
--- What the calls do to the map is what the records of Store say.
+-- What the calls make of a map of records is what Store says that they do, record by record. Assumes nothing.
 use Prim.Native.Nat.{ℕ, suc, _≤_, _<_, Ordering}
 use native.Mathlib.Omega.{arith}
 use mathlib.Core.Path.{_≡_, refl, sym, _∙_, ap}

@@ -1,4 +1,4 @@
--- The definitions of History, one event at a time.
+-- The definitions of History, one event at a time: what it changes, and that it changes nothing else. Assumes nothing.
 use Prim.Native.Nat.{ℕ}
 use mathlib.Core.Path.{_≡_, refl, _∙_}
 use mathlib.Core.Logic.{_≢_, ite, if-pos, if-neg}

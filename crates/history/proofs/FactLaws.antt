@@ -1,4 +1,4 @@
--- What holds of every good history.
+-- What holds of every history whose events were all allowed: versions begin in turn, what has ended stays ended. Assumes nothing.
 use Prim.Native.Nat.{ℕ, suc, _≤_, _<_}
 use native.Mathlib.Omega.{arith}
 use mathlib.Core.Path.{_≡_, refl, _∙_}

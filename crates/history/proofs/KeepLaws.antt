@@ -1,4 +1,4 @@
--- Each accepted call keeps the store's records true to the history.
+-- Each accepted call keeps what the store says true to the history. Assumes nothing.
 use Prim.Native.Nat.{ℕ, suc}
 use native.Mathlib.Omega.{arith}
 use mathlib.Core.Path.{_≡_, refl, sym, _∙_, ap}

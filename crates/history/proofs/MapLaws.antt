@@ -1,4 +1,4 @@
--- Lookup after put and removal.
+-- Look-ups in a map of records after one was put in, and after some were taken out. Assumes nothing.
 use Prim.Native.Nat.{Ordering, Ordering·lt, Ordering·eq, Ordering·gt}
 use mathlib.Core.Path.{_≡_, refl, sym, _∙_, ap, subst}
 use mathlib.Core.Bool.{Bool, true, false, not, _||_}

@@ -1,4 +1,4 @@
--- The theorem: whatever is done with the store, its answers are what the history calls for.
+-- The theorem on records: whatever is done with a store of records, its answers are what the history calls for. Assumes nothing.
 use Prim.Native.Nat.{ℕ, zero, suc, _≤_, _<_}
 use native.Mathlib.Omega.{arith}
 use mathlib.Core.Path.{_≡_, refl, sym, _∙_, ap}

@@ -1,4 +1,4 @@
--- What the scans over a key's versions find.
+-- What the scans over a key's versions find: the last that passes a test is the highest. Assumes nothing.
 use Prim.Native.Nat.{ℕ, _<_, Ordering, Ordering·lt}
 use native.Mathlib.Omega.{arith}
 use mathlib.Core.Path.{_≡_, refl, sym, _∙_}

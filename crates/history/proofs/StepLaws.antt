@@ -1,4 +1,4 @@
--- A scan step gives the first key that shows a value.
+-- A scan step over records gives the first key that passes and shows a value, in the order of the keys. Assumes nothing.
 use Prim.Native.Nat.{ℕ, Ordering}
 use mathlib.Core.Path.{_≡_, refl, sym, _∙_}
 use mathlib.Core.Bool.{Bool, true, false, cond}

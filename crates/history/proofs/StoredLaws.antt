@@ -1,4 +1,5 @@
--- How the stored versions move, and that two live writers of a key never overlap.
+-- How the stored versions move with each event, and the heart of it: of two live writers of a key the lower had committed before the
+-- higher began. Assumes nothing.
 use Prim.Native.Nat.{ℕ, _<_}
 use native.Mathlib.Omega.{arith}
 use mathlib.Core.Path.{_≡_, refl, sym, _∙_}

@@ -1,4 +1,4 @@
--- What a handle sees is what was laid down when it was given.
+-- What a handle sees of the stored versions is what was laid down when it was given, and its own writes. Assumes nothing.
 use Prim.Native.Nat.{ℕ, suc, _≤_, _<_}
 use native.Mathlib.Omega.{arith}
 use mathlib.Core.Path.{_≡_, refl, sym, _∙_}

@@ -1,4 +1,5 @@
--- The transactions' calls on the map, as document 01 has them.
+-- The transactions' calls on a map of typed records, as document 01 has them: what a begin, a write, a commit and a rollback make of it, and
+-- what a get, a write's search and a scan step find in it. Assumes nothing.
 use Prim.Native.Nat.{ℕ, suc, Ordering}
 use mathlib.Core.Bool.{Bool, false, not, _&&_, cond}
 use mathlib.Core.Logic.{ite}

@@ -1,4 +1,5 @@
--- The records of the store, typed, and the map that holds them in key order.
+-- The records of the store, typed, each with its key and its payload in one, and the map that holds them in the order of the keys.
+-- Assumes nothing.
 use Prim.Native.Nat.{ℕ, _<_, Ordering, Ordering·lt, Ordering·eq, Ordering·gt}
 use mathlib.Core.Path.{_≡_}
 use mathlib.Core.Bool.{Bool, true, false}

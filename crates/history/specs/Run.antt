@@ -1,4 +1,4 @@
--- The calls as they are made and answered, and what they are to answer.
+-- The calls as they are made and answered, how the history counts each, and every way to use a store of typed records. Assumes nothing.
 use Prim.Native.Nat.{ℕ, zero, suc, _<_, Ordering}
 use mathlib.Core.Path.{_≡_}
 use mathlib.Core.Bool.{Bool, true, false, not, _||_, cond}

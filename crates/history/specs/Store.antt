@@ -1,13 +1,15 @@
--- What the transactions read of the store, record by record, and what each accepted call does to it.
+-- What the transactions read of the store, record by record, what each accepted call does to it, and that the store says of the
+-- transactions what the history says. Document 01, 'Transactions'. Assumes nothing.
 use Prim.Native.Nat.{ℕ, suc}
 use mathlib.Core.Path.{_≡_}
 use mathlib.Core.Bool.{Bool, true, false, not, _&&_}
 use mathlib.Core.Logic.{_≢_}
 use mathlib.Core.Option.{Option, none, some}
 use mathlib.Core.List.{List, [], _∷_}
-use Rattle.history.specs.History.{Key, Bytes}
-use Rattle.history.specs.History.{Sight, History, status, lastWrite, past, begins, isIn, isOpen, keep, stored, unborn, Low}
+use Rattle.history.specs.History.{Key, Bytes, Sight, History, status, lastWrite, past, begins, isIn, isOpen, keep, stored, unborn, Low}
 
+-- the next version; which versions are open; the set stored at a version's begin; which keys a version is recorded to have written; and what
+-- a version wrote of a key
 pub record Db : Type 0 where
   pub next : ℕ
   pub act : ℕ → Bool
@@ -15,6 +17,7 @@ pub record Db : Type 0 where
   pub txw : ℕ → Key → Bool
   pub vers : Key → ℕ → Option (Option Bytes)
 
+-- a begin stores its set where it has one
 abbrev pub kept : List ℕ → List ℕ → List ℕ
 kept [] s = s
 kept (x ∷ xs) s = x ∷ xs
