@@ -9,7 +9,7 @@ ghost use Rattle.keydir.specs.Slots.{slotWords, slotsOf};
 ghost use Rattle.bitcask.specs.Ranks.{below as belowOf, upto as uptoOf, fromBound, uptoBound};
 
 // How many keys are below one.
-pub fn below(log: &[u8], table: &[u32], count: usize, key: &[u8]) -> usize
+fn below(log: &[u8], table: &[u32], count: usize, key: &[u8]) -> usize
     requires { ⌜ slotWords * count ≤ length (now table) ⌝ }
     ensures { λ r. ⌜ (r ≡ belowOf (now (log .entry)) (now (key .entry)) (slotsOf count (now (table .entry)))) × (r ≤ count) ⌝ }
 {
@@ -20,7 +20,7 @@ pub fn below(log: &[u8], table: &[u32], count: usize, key: &[u8]) -> usize
 }
 
 // How many keys are below one or the same.
-pub fn upto(log: &[u8], table: &[u32], count: usize, key: &[u8]) -> usize
+fn upto(log: &[u8], table: &[u32], count: usize, key: &[u8]) -> usize
     requires { ⌜ slotWords * count ≤ length (now table) ⌝ }
     ensures { λ r. ⌜ (r ≡ uptoOf (now (log .entry)) (now (key .entry)) (slotsOf count (now (table .entry)))) × (r ≤ count) ⌝ }
 {

@@ -20,17 +20,17 @@ use Rattle.entry.specs.Entry.{Entry}
 use Rattle.recovery.specs.declared.request.Changed.{Changed}
 use Rattle.recovery.specs.declared.request.Changed.the-variants as Change
 use Rattle.recovery.specs.Recover.{mapOf}
-use Rattle.recovery.specs.Agree.{fit, Agrees}
+use Rattle.recovery.specs.Agree.{Agrees}
 use Rattle.recovery.specs.Promises.{changedNumber}
 use Rattle.bitcask.specs.declared.append.Check.{Check}
 use Rattle.bitcask.specs.declared.append.Check.the-variants.{Fine}
 use Rattle.bitcask.specs.Append.{sizeAll, afterAll, appendAnswer}
 use Rattle.handle.specs.declared.payload.SetAnswer.the-variants as SetAnswers
 use Rattle.handle.specs.declared.handle.Handle.{Handle}
-use Rattle.handle.specs.Handles.{handleOf, soundHandle}
+use Rattle.handle.specs.Handles.{handleOf}
 use Rattle.txn.specs.declared.begun.Begun.{Begun}
 use Rattle.txn.specs.Given.{refusedBy, begunWith}
-use Rattle.txn.specs.Checks.{admitBy, orElse, openIn}
+use Rattle.txn.specs.Checks.{orElse}
 use Rattle.txn.specs.Lists.{Dels}
 use Rattle.mvcc_begin.specs.declared.status.Versions.{Versions}
 use Rattle.mvcc_begin.specs.declared.status.Stated.{Stated}
@@ -59,7 +59,8 @@ use Rattle.isolation.proofs.EndedLaws.{admits, commit-dels, rollback-de
 use Rattle.isolation.proofs.KeptLaws.{Kept, Ready}
 use Rattle.isolation.proofs.BegunLaws.{begin-says, sight-made}
 use Rattle.isolation.proofs.BeganLaws.{next-fits, begin-at, reading-at, as-of-at}
-use Rattle.isolation.proofs.ShownLaws.{open-in}
+use Rattle.isolation.proofs.OpenLaws.{checks-pass}
+use Rattle.isolation.proofs.ShownLaws.{usable-in}
 
 -- ---- numbers that are not 12
 
@@ -103,10 +104,6 @@ dels-answer log used t es {r} g d e = go (decLe (used + sizeAll es) (length log)
     go : Dec (used + sizeAll es ≤ length log) → (changedNumber r ≡ 0) ⊎ (changedNumber r ≡ 7)
     go (yes h) = inl (ap changedNumber (e ∙ dels-done log used t es g d h))
     go (no h) = inr (ap changedNumber e ∙ rw (lt-leb (used + sizeAll es) (length log) (omega arith)))
-
-admit-fine : (f g o : Bool) → f ≡ true → g ≡ true → o ≡ true → admitBy f g o ≡ Fine
-unfolding admitBy
-admit-fine f g o p q i = rw (p, q, i)
 
 undo-passed : (c : Check) (ro users : Bool) (x r : Changed) → r ≡ orElse c (pick (pick ro true users) x (Change.Refused BadStore)) → c ≡ Fine → users ≡ true → r ≡ x
 undo-passed c true users x r e p q = e ∙ rw p
@@ -177,9 +174,7 @@ module _ {w : World} {T : Calls} {m : Map} (k : Kept w T m) (a : Ready w) where
 
   module _ {h : Handle} (g : Given h T) (u : Usable T h) where
     admitted : admits (w .log) (w .used) (w .table) h ≡ Fine
-    admitted =
-        let s = k .handles h g in
-        admit-fine (fit (length (w .log)) (w .used) (length (w .table))) (soundHandle h) (openIn (w .log) (w .used) h) (a .sound) (s .sound) (open-in k s u)
+    admitted = checks-pass k (k .handles h g) a (usable-in k h u)
 
     pub resumed : {r : Begun} → Resumes (w .log) (w .used) (w .table) h r → r ≡ begunWith (w .used) h
     unfolding resumeAnswer

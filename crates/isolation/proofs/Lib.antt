@@ -2,6 +2,7 @@
 pub mod GivenLaws
 pub mod EndedLaws
 pub mod KeptLaws
+pub mod OpenLaws
 pub mod BegunLaws
 pub mod BeganLaws
 pub mod WroteLaws

@@ -1,13 +1,14 @@
 -- Theorem: the handle of a transaction that has ended meets 3 in every call. Assumes nothing.
 use Prim.Native.Nat.{ℕ}
-use mathlib.Core.Path.{_≡_, refl, _∙_}
-use mathlib.Core.Bool.{Bool, true, false}
+use mathlib.Core.Path.{_≡_, refl, _∙_, ap}
+use mathlib.Core.Bool.{Bool, true, false, _||_}
 use mathlib.Core.Logic.{_≢_}
 use mathlib.Core.List.{List, _∷_}
 use lib.Dec.{leb}
 use lib.ListN.{length}
 use Rattle.keycode.specs.Limits.{maxKey, maxValue}
 use Rattle.keycode.specs.declared.refusal.Refusal.the-variants.{NotOpen}
+use Rattle.keys.specs.Keys.{txnActive}
 use Rattle.recovery.specs.declared.request.Changed.{Changed}
 use Rattle.recovery.specs.declared.request.Changed.the-variants as Change
 use Rattle.recovery.specs.Agree.{fit}
@@ -20,22 +21,22 @@ use Rattle.handle.specs.declared.handle.Handle.{Handle}
 use Rattle.handle.specs.Handles.{soundHandle}
 use Rattle.txn.specs.declared.begun.Begun.{Begun}
 use Rattle.txn.specs.Given.{refusedBy}
-use Rattle.txn.specs.Checks.{openBy, admitBy, openIn}
+use Rattle.txn.specs.Checks.{admitBy, openIn}
 use Rattle.mvcc_read.specs.Promises.{getAnswer, Gets, resumeAnswer, Resumes}
 use Rattle.mvcc_write.specs.Writes.{allowBy}
 use Rattle.mvcc_write.specs.Promises.{Writes, writeAnswer}
 use Rattle.mvcc_scan.specs.Promises.{keysBy, scanAnswer, Scanning}
 use Rattle.mvcc_end.specs.Promises.{Commits, commitAnswer, RollsBack, rollbackAnswer}
 use Rattle.history.specs.History.{After, Status, unborn, opened, done, rolled, status, isOpen}
-use Rattle.history.specs.Records.{Map}
-use Rattle.history.proofs.RunLaws.{run-sorted, run-open, begin-own}
+use Rattle.history.specs.Records.{Map, look}
+use Rattle.history.specs.Store.{isSome}
+use Rattle.history.proofs.RunLaws.{run-open, begin-own}
 use Rattle.records.specs.Stored.{sightOf}
 use Rattle.records.proofs.OrderLaws.{order}
-use Rattle.records.proofs.ReadLaws.{open-pairs}
 use Rattle.isolation.specs.World.{World, Calls, begins, Gave, by-begin, meaning}
 use Rattle.isolation.proofs.GivenLaws.{began-trace}
 use Rattle.isolation.proofs.KeptLaws.{Sound, Kept, Ready}
-use Rattle.isolation.proofs.WroteLaws.{own-version}
+use Rattle.isolation.proofs.OpenLaws.{open-usable}
 
 -- ---- ended
 
@@ -63,11 +64,9 @@ module _ {w : World} {T T₁ : Calls} {m : Map} (k : Kept w T m) (a : Ready w) {
   own = begin-own order (k .run) (sightOf h) (began-trace x g f)
 
   closed : openIn (w .log) (w .used) h ≡ false
-  unfolding openBy
   closed =
-      let v = sound .own own in
-      rw (own, own-version (h .version) (v .0) (v .1), k .map)
-      (open-pairs h (run-sorted order (k .run)) ∙ run-open order (k .run) (h .version) ∙ not-open (status (meaning T) (h .version)) n)
+      open-usable k sound ∙ ap (λ (b : Bool). b || isSome (look m (txnActive (h .version)))) own
+      ∙ run-open order (k .run) (h .version) ∙ not-open (status (meaning T) (h .version)) n
 
   check : admitBy (fit (length (w .log)) (w .used) (length (w .table))) (soundHandle h) (openIn (w .log) (w .used) h) ≡ Refused NotOpen
   check = refused-by (fit (length (w .log)) (w .used) (length (w .table))) (soundHandle h) (openIn (w .log) (w .used) h) (a .sound) (sound .sound) closed

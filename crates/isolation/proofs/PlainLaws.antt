@@ -9,7 +9,6 @@ use borrow.Author.Tests.{leb-true, not-false}
 use Rattle.keycode.specs.Tests.{pick}
 use Rattle.keycode.specs.Limits.{maxKey}
 use Rattle.keycode.proofs.Basics.{nope}
-use Rattle.keys.specs.Keys.{txnActive}
 use Rattle.keydir.specs.Place.{All}
 use Rattle.recovery.specs.declared.request.Changed.{Changed}
 use Rattle.recovery.specs.declared.request.Changed.the-variants as Change
@@ -20,15 +19,13 @@ use Rattle.bitcask.specs.declared.append.Check.the-variants.{Fine, Refused}
 use Rattle.bitcask.specs.Append.{sizeAll, afterAll}
 use Rattle.handle.specs.declared.handle.Handle.{Handle}
 use Rattle.handle.specs.Handles.{soundHandle}
-use Rattle.txn.specs.Looks.{liveIn}
-use Rattle.txn.specs.Checks.{activeKey, ownVersion, openBy, admitBy}
+use Rattle.txn.specs.Checks.{admitBy, openIn}
 use Rattle.mvcc_write.specs.Writes.{plainPlan}
 use Rattle.mvcc_write.specs.Promises.{SetsPlain}
 use Rattle.mvcc_write.proofs.MapLaws.{plain-grow}
 use Rattle.mvcc_end.specs.Plans.{commitPlan, rollbackPlan}
 use Rattle.mvcc_end.specs.Promises.{Commits, RollsBack}
-use Rattle.history.specs.Store.{isSome}
-use Rattle.history.specs.Records.{Map, plainRec, look, put as putRecord, Sorted}
+use Rattle.history.specs.Records.{Map, plainRec, put as putRecord, Sorted}
 use Rattle.history.specs.Calls.{commitMap, rollbackMap}
 use Rattle.history.specs.Run.{usable, do-plain, do-commit, do-rollback}
 use Rattle.history.proofs.RunLaws.{run-sorted}
@@ -37,12 +34,11 @@ use Rattle.records.proofs.OrderLaws.{order}
 use Rattle.records.proofs.PlanLaws.{plain-pairs}
 use Rattle.records.proofs.EndLaws.{commit-pairs, rollback-pairs, commit-none, rollback-none}
 use Rattle.records.proofs.FineLaws.{fine-plain, fine-commit, fine-rollback}
-use Rattle.records.proofs.ReadLaws.{open-pairs}
 use Rattle.isolation.specs.World.{World, Calls, setsPlain, commits, rollsBack, changedTo, Given, traceOf}
 use Rattle.isolation.proofs.GivenLaws.{given-trace}
 use Rattle.isolation.proofs.EndedLaws.{admits, commit-ended, rollback-ended}
 use Rattle.isolation.proofs.KeptLaws.{Sound, Kept, Ready, given-cases, kept-refused, refused-same, lenOf}
-use Rattle.isolation.proofs.WroteLaws.{own-version}
+use Rattle.isolation.proofs.OpenLaws.{open-usable}
 
 -- ---- they give no handle
 
@@ -93,16 +89,8 @@ module _ {w : World} {T : Calls} {m : Map} (k : Kept w T m) (a : Ready w) where
   fine-open true false o e = nope (cc)
   fine-open false g o e = nope (cc)
 
-  open-is : (h : Handle) → h .«read_only» ≡ false → ownVersion (h .version) ≡ true → openBy h (liveIn (activeKey h) (mapOf (w .log) (w .used))) ≡ isSome (look m (txnActive (h .version)))
-  unfolding openBy
-  open-is h e v = rw (e, v, k .map) (open-pairs h sorted)
-
   usable-is : {h : Handle} → Sound h → admits (w .log) (w .used) (w .table) h ≡ Fine → usable m (sightOf h) ≡ true
-  usable-is {h} s e = go (h .«read_only») refl (fine-open (fit (length (w .log)) (w .used) (length (w .table))) (soundHandle h) (openBy h (liveIn (activeKey h) (mapOf (w .log) (w .used)))) e)
-    where
-      go : (i : Bool) → h .«read_only» ≡ i → openBy h (liveIn (activeKey h) (mapOf (w .log) (w .used))) ≡ true → usable m (sightOf h) ≡ true
-      go true p q = rw p
-      go false p q = let v = s .own p in rw p (sym (open-is h p (own-version (h .version) (v .0) (v .1))) ∙ q)
+  usable-is {h} s e = sym (open-usable k s) ∙ fine-open (fit (length (w .log)) (w .used) (length (w .table))) (soundHandle h) (openIn (w .log) (w .used) h) e
 
   commit-map : (h : Handle) (i : Bool) → h .«read_only» ≡ i → afterAll (commitPlan h (pairsIn m)) (pairsIn m) ≡ pairsIn (cond i m (commitMap (h .version) m))
   unfolding afterAll

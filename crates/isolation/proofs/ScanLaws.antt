@@ -1,16 +1,14 @@
 -- A scan step with a handle that is open shows the first key, of those that pass, that shows a value to the handle; it answers 1 where
 -- there is none, and no other number. Assumes nothing.
-use Prim.Native.Nat.{ℕ, _-_, _^_, _<_}
+use Prim.Native.Nat.{ℕ, _-_}
 use mathlib.Core.Path.{_≡_, refl, sym, ap, subst, _∙_}
-use mathlib.Core.Bool.{Bool, true, false, _||_}
+use mathlib.Core.Bool.{Bool, true}
 use mathlib.Core.Option.{Option, none, some}
 use mathlib.Core.List.{List}
-use Rattle.keycode.specs.Tests.{pick}
 use Rattle.keycode.specs.Order.{compareBytes}
 use Rattle.keycode.specs.Strings.{escapeBody}
 use Rattle.keycode.specs.declared.parts.Part.{Part}
 use Rattle.keycode.specs.declared.order.Order.the-variants.{Less}
-use Rattle.keys.specs.Keys.{txnActive}
 use Rattle.recovery.specs.Map.{Pair}
 use Rattle.recovery.specs.Recover.{mapOf}
 use Rattle.bitcask.specs.declared.append.Check.{Check}
@@ -21,8 +19,6 @@ use Rattle.bitcask.specs.declared.answers.Stepped.the-variants as Step
 use Rattle.bitcask.specs.Promises.{steppedNumber}
 use Rattle.bitcask.specs.Ranks.{admitted}
 use Rattle.handle.specs.declared.handle.Handle.{Handle}
-use Rattle.txn.specs.Looks.{liveIn}
-use Rattle.txn.specs.Checks.{activeKey, ownVersion, openBy, admitBy, openIn}
 use Rattle.txn.specs.Ranges.{pairsOf}
 use Rattle.txn.proofs.CheckLaws.{not-done}
 use Rattle.mvcc_scan.specs.Bounds.{keysFit, prefixFits}
@@ -30,8 +26,7 @@ use Rattle.mvcc_scan.specs.Steps.{Given, stepPairs, stepNumber, Shows}
 use Rattle.mvcc_scan.specs.Promises.{keysBy, Scanning, Scans, ScansPrefix}
 use Rattle.mvcc_scan.proofs.ShowLaws.{scan-shows}
 use Rattle.history.specs.History.{Key, Bytes}
-use Rattle.history.specs.Records.{Map, look}
-use Rattle.history.specs.Store.{isSome}
+use Rattle.history.specs.Records.{Map}
 use Rattle.history.specs.Calls.{shown, scanStep}
 use Rattle.history.specs.Run.{usable}
 use Rattle.history.proofs.StepLaws.{scan-step}
@@ -39,32 +34,12 @@ use Rattle.history.proofs.RunLaws.{run-sorted}
 use Rattle.records.specs.Stored.{pairsIn, sightOf}
 use Rattle.records.specs.Scans.{givenOf, First, none-shows, first-shows, prefixPast}
 use Rattle.records.proofs.OrderLaws.{order}
-use Rattle.records.proofs.PairLaws.{live-pairs}
 use Rattle.records.proofs.ScanLaws.{scan-pairs, prefix-pairs, step-first}
 use Rattle.isolation.specs.World.{World, Calls}
 use Rattle.isolation.specs.Shown.{ShowsFirst, ends, gives}
 use Rattle.isolation.proofs.EndedLaws.{admits}
 use Rattle.isolation.proofs.KeptLaws.{Sound, Kept, Ready}
-use Rattle.isolation.proofs.WroteLaws.{own-version}
-
--- ---- the first checks
-
-module _ {w : World} {T : Calls} {m : Map} {h : Handle} (k : Kept w T m) (s : Sound h) where
-  -- the call's test of the handle is the history's
-  pub open-usable : openIn (w .log) (w .used) h ≡ usable m (sightOf h)
-  unfolding openBy
-  open-usable =
-      ap (λ (l : List Pair). openBy h (liveIn (activeKey h) l)) (k .map)
-      ∙ ap (openBy h) (live-pairs (txnActive (h .version)) (run-sorted order (k .run))) ∙ go (h .«read_only») (s .own)
-    where
-      go : (b : Bool) → (b ≡ false → (0 < h .version) × (h .version < 2 ^ 64 - 1))
-          → pick b true (pick (ownVersion (h .version)) (isSome (look m (txnActive (h .version)))) false) ≡ b || isSome (look m (txnActive (h .version)))
-      go true o = refl
-      go false o = rw (own-version (h .version) (o refl .0) (o refl .1))
-
-  pub checks-pass : Ready w → usable m (sightOf h) ≡ true → admits (w .log) (w .used) (w .table) h ≡ Fine
-  unfolding admitBy
-  checks-pass a u = rw (a .sound, s .sound, open-usable, u)
+use Rattle.isolation.proofs.OpenLaws.{checks-pass}
 
 -- ---- an answer by the step's pair
 

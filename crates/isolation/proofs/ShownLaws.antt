@@ -21,8 +21,7 @@ use Rattle.bitcask.specs.declared.answers.Located.the-variants as Got
 use Rattle.handle.specs.declared.handle.Handle.{Handle}
 use Rattle.handle.specs.Handles.{soundHandle}
 use Rattle.txn.specs.Ranges.{keep, pairsOf}
-use Rattle.txn.specs.Looks.{liveIn}
-use Rattle.txn.specs.Checks.{activeKey, ownVersion, openBy, admitBy, openIn}
+use Rattle.txn.specs.Checks.{admitBy, openIn}
 use Rattle.mvcc_read.specs.declared.seen.Seen.{Seen}
 use Rattle.mvcc_read.specs.declared.seen.Seen.the-variants.{Hidden, Gone, Bad, Value}
 use Rattle.mvcc_read.specs.Seen.{lastSeen, locatedSeen, versionTest, valueFor}
@@ -35,13 +34,12 @@ use Rattle.history.specs.Run.{usable}
 use Rattle.history.proofs.RunLaws.{run-sorted, run-open, get-writer, get-reader, get-asOf, get-asOf-0}
 use Rattle.records.specs.Stored.{keyOrder, sightOf}
 use Rattle.records.proofs.OrderLaws.{order}
-use Rattle.records.proofs.ReadLaws.{open-pairs}
 use Rattle.records.proofs.SeenLaws.{value-pairs}
 use Rattle.isolation.specs.World.{World, Calls, Given, by-begin, by-reading, by-asOf}
 use Rattle.isolation.specs.Views.{Usable, Sees, writer, reader, asOf, asOfNone, Shows}
 use Rattle.isolation.proofs.GivenLaws.{began-trace, read-trace, as-of-trace}
 use Rattle.isolation.proofs.KeptLaws.{Sound, Kept, Ready}
-use Rattle.isolation.proofs.WroteLaws.{own-version}
+use Rattle.isolation.proofs.OpenLaws.{open-usable}
 
 pub sees-given : {T : Calls} {h : Handle} {f : Key → Option Bytes} → Sees T h f → Given h T
 sees-given (writer a g e) = by-begin a g
@@ -69,14 +67,8 @@ module _ {w : World} {T : Calls} {m : Map} (k : Kept w T m) where
   sees-shown {h} (asOfNone {r = r} a g e) u key = get-asOf-0 order (k .run) (sightOf h) (as-of-trace r g 0 a) key ∙ sym (e key)
 
   -- the store's own test of a usable handle
-  pub open-in : {h : Handle} → Sound h → Usable T h → openIn (w .log) (w .used) h ≡ true
-  unfolding openBy
-  open-in {h} s (inl r) = rw r
-  open-in {h} s (inr o) = go (h .«read_only») refl
-    where
-      go : (i : Bool) → h .«read_only» ≡ i → pick (h .«read_only») true (pick (ownVersion (h .version)) (liveIn (activeKey h) (mapOf (w .log) (w .used))) false) ≡ true
-      go true e = rw e
-      go false e = let v = s .own e in rw (e, own-version (h .version) (v .0) (v .1), k .map) (open-pairs h sorted ∙ run-open order (k .run) (h .version) ∙ ap isOpen o)
+  open-in : {h : Handle} → Sound h → Usable T h → openIn (w .log) (w .used) h ≡ true
+  open-in {h} s u = open-usable k s ∙ usable-in h u
 
 -- ---- get
 

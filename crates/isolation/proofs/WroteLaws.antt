@@ -1,15 +1,15 @@
 -- A write keeps the store's records: its number is that of the write on records, as far as there is room, and where it answers 0 the
 -- records are those that the write makes. Assumes nothing.
-use Prim.Native.Nat.{ℕ, suc, _+_, _-_, _^_, _<_, _≤_}
+use Prim.Native.Nat.{ℕ, suc, _+_, _-_, _<_, _≤_}
 use mathlib.Core.Path.{_≡_, refl, sym, ap, _∙_, subst}
-use mathlib.Core.Bool.{Bool, true, false, not}
+use mathlib.Core.Bool.{Bool, true, false, not, _||_}
 use mathlib.Core.Option.{Option, none, some}
 use mathlib.Core.List.{List, _∷_}
 use native.Mathlib.Decide.{decLe}
 use native.Mathlib.Omega.{arith}
 use lib.Dec.{leb, ltb}
 use lib.ListN.{length}
-use borrow.Author.Tests.{leb-true, ne-eqb, le-leb, lt-leb, lt-ltb, le-ltb}
+use borrow.Author.Tests.{leb-true, le-leb, lt-leb, lt-ltb, le-ltb}
 use Rattle.keycode.specs.Tests.{pick, ifDone}
 use Rattle.keycode.specs.Buffer.{put}
 use Rattle.keycode.specs.Limits.{maxKey, maxValue}
@@ -33,7 +33,7 @@ use Rattle.handle.specs.Handles.{soundHandle}
 use Rattle.handle.specs.Payloads.{valueBytes}
 use Rattle.txn.specs.Ranges.{pairsOf}
 use Rattle.txn.specs.Looks.{liveIn}
-use Rattle.txn.specs.Checks.{activeKey, ownVersion, openBy, orElse}
+use Rattle.txn.specs.Checks.{activeKey, openBy, orElse}
 use Rattle.mvcc_write.specs.Writes.{sizesBy, allowBy, searchBy, searched, plan}
 use Rattle.mvcc_write.specs.Promises.{Writes, writeAnswer}
 use Rattle.mvcc_write.proofs.MapLaws.{writes-grow}
@@ -48,11 +48,11 @@ use Rattle.records.specs.Stored.{keyOrder, sightOf}
 use Rattle.records.proofs.OrderLaws.{order}
 use Rattle.records.proofs.PlanLaws.{write-pairs}
 use Rattle.records.proofs.FineLaws.{fine-write}
-use Rattle.records.proofs.ReadLaws.{open-pairs}
 use Rattle.records.proofs.SearchLaws.{search-pairs}
 use Rattle.isolation.specs.World.{World, Call, Calls, changedTo, Given, entryOf, traceOf}
 use Rattle.isolation.specs.Views.{sizeIn}
 use Rattle.isolation.proofs.GivenLaws.{given-trace}
+use Rattle.isolation.proofs.OpenLaws.{open-usable}
 use Rattle.isolation.proofs.KeptLaws.{Sound, Kept, Ready, agrees-at, refused-same}
 
 -- ---- the number
@@ -113,10 +113,6 @@ by-answer : (f g ro o short small : Bool) (c : Check) (x r : Changed) → f ≡ 
 unfolding allowBy
 by-answer f g ro o short small c x r p q e = e ∙ rw (p, q)
 
-pub own-version : (v : ℕ) → 0 < v → v < 2 ^ 64 - 1 → ownVersion v ≡ true
-unfolding ownVersion
-own-version v a b = rw (ne-eqb v 0 (λ e. omega arith), ne-eqb v (2 ^ 64 - 1) (λ e. omega arith))
-
 -- the rest of the tests does not count for a read-only handle
 read-only-stops : (ro o o′ short small : Bool) (c c′ : Check) (x r : Changed) → ro ≡ true → r ≡ orElse (pick ro (Refused ReadOnly) (pick o (sizesBy short small) (Refused NotOpen))) (orElse c x)
     → r ≡ orElse (pick ro (Refused ReadOnly) (pick o′ (sizesBy short small) (Refused NotOpen))) (orElse c′ x)
@@ -145,10 +141,6 @@ module _ {w : World} {T : Calls} {m : Map} (k : Kept w T m) (a : Ready w) {h : H
   abbrev live : Bool
   live = isSome (look m (txnActive (h .version)))
 
-  open-is : h .«read_only» ≡ false → ownVersion (h .version) ≡ true → opens ≡ live
-  unfolding openBy
-  open-is e v = rw (e, v, k .map) (open-pairs h sorted)
-
   answered : r ≡ orElse (pick (h .«read_only») (Refused ReadOnly) (pick opens (sizesBy short small) (Refused NotOpen))) (orElse search rest)
   unfolding writeAnswer
   answered = by-answer (fit (length (w .log)) (w .used) (length (w .table))) (soundHandle h) (h .«read_only») opens short small search rest r (a .sound) (s .sound) (b .answer a)
@@ -161,7 +153,7 @@ module _ {w : World} {T : Calls} {m : Map} (k : Kept w T m) (a : Ready w) {h : H
       go true e = read-only-stops (h .«read_only») opens live short small search (pick (conflict m (sightOf h) key) (Refused Conflict) Fine) rest r e answered
       go false e =
           let v = s .own e in
-          let p : opens ≡ live = open-is e (own-version (h .version) (v .0) (v .1)) in
+          let p : opens ≡ live = open-usable k s ∙ ap (λ (b : Bool). b || live) e in
           let q : search ≡ pick (conflict m (sightOf h) key) (Refused Conflict) Fine = ap (λ (x : List Pair). searchBy h (pairsOf (searched h key) x)) (k .map) ∙ search-pairs h e (v .1) (s .set) key (k .fine) in
           answered ∙ (λ j. orElse (pick (h .«read_only») (Refused ReadOnly) (pick (p j) (sizesBy short small) (Refused NotOpen))) (orElse (q j) rest))
 

@@ -9,24 +9,20 @@ use lib.ListN.{length}
 use borrow.Author.Tests.{ne-eqb, le-leb}
 use Rattle.keycode.specs.Limits.{maxOpen}
 use Rattle.keycode.proofs.Basics.{nope}
-use Rattle.keys.specs.Keys.{Fields, encode, nextVersion, txnActive, txnActiveSnapshot}
+use Rattle.keys.specs.Keys.{Fields, encode, nextVersion, txnActiveSnapshot}
 use Rattle.keydir.specs.Place.{All, all-none, all-more}
 use Rattle.recovery.specs.Map.{lookIn}
-use Rattle.handle.specs.declared.handle.Handle.{Handle}
 use Rattle.handle.specs.declared.payload.VersionRead.the-variants.{Read}
 use Rattle.handle.specs.declared.payload.SetAnswer.the-variants as SetAnswers
 use Rattle.handle.specs.Handles.{handleOf}
 use Rattle.handle.specs.Payloads.{setFor}
 use Rattle.handle.proofs.PayloadLaws.{first-reads}
-use Rattle.txn.specs.Looks.{liveIn}
-use Rattle.txn.specs.Checks.{activeKey}
 use Rattle.mvcc_begin.specs.Active.{nextOf as nextIn, nextAt}
 use Rattle.mvcc_begin.specs.Begins.{snapshotRead}
 use Rattle.history.specs.Records.{fields≟, Rec, nextRec, activeRec, snapRec, wroteRec, verRec, plainRec, keyOf, Map, look, Sorted}
-use Rattle.history.specs.Store.{isSome}
 use Rattle.history.specs.Calls.{nextOf, setOf}
 use Rattle.records.specs.Stored.{payloadOf, pairsIn, keyOrder, Fine}
-use Rattle.records.proofs.PairLaws.{payloadIn, look-pairs, live-pairs}
+use Rattle.records.proofs.PairLaws.{payloadIn, look-pairs}
 
 -- what is found has the key, and is within the limits
 pub look-says : {m : Map} → All Fine m → (K : Fields) (r : Rec) → look m K ≡ some r → (keyOf r ≡ K) × Fine r
@@ -71,6 +67,3 @@ module _ {m : Map} (s : Sorted keyOrder m) (a : All Fine m) where
       go (some (wroteRec u k)) w = nope (cc (w (wroteRec u k) refl .0))
       go (some (verRec k u o)) w = nope (cc (w (verRec k u o) refl .0))
       go (some (plainRec k b)) w = nope (cc (w (plainRec k b) refl .0))
-
-pub open-pairs : (h : Handle) {m : Map} → Sorted keyOrder m → liveIn (activeKey h) (pairsIn m) ≡ isSome (look m (txnActive (h .version)))
-open-pairs h s = live-pairs (txnActive (h .version)) s

@@ -183,11 +183,6 @@ module _ (log : List ℕ) (used : ℕ) (t : List ℕ) (es : List Entry) (g : Agr
   pub sets-judged : Sets es → Apart es → judge (roomAll (Left (length log - used)) es) (freshAll log es (slotsOf n t)) (length t / slotWords - n) ≡ checkOf (appendAnswer log used (length t) es)
   sets-judged s a = ap (λ (f : ℕ). judge (roomAll (Left (length log - used)) es) f (length t / slotWords - n)) (rw en (all-fresh log used t g es)) ∙ new-judged s a
 
-  pub dels-judged : Dels es → judge (roomAll (Left (length log - used)) es) 0 (length t / slotWords - n) ≡ checkOf (appendAnswer log used (length t) es)
-  dels-judged d =
-      judge-is log used (length t) es (agrees-sound log used t g .within) 0 (length t / slotWords - n)
-      (λ h. omega (arith, dels-shrink d (mapOf log used), map-fits)) (λ h. absurd (omega arith))
-
   -- the law of appended lists, for the two kinds that the calls have
   module _ (room : used + sizeAll es ≤ length log) where
     pub sets-append : Sets es → length (afterAll es (mapOf log used)) ≤ length t / slotWords → Appends log used t es (appendedAll (record { log = log; used = used; table = t; count = n }) es)
