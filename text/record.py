@@ -59,6 +59,8 @@ class Record(NamedTuple):
 
 def unpacked(record: bytes) -> Optional[Record]:
     """The fields of a record, or None where they are not all that its bytes hold: words must not hide a stray byte."""
+    if len(record) != RECORD:
+        return None
     key = record[KEY_AT : KEY_AT + record[2]]
     value = record[VALUE_AT : VALUE_AT + record[3]]
     fields = Record(record[0], record[1], int.from_bytes(record[4:KEY_AT], "big"), key, value)

@@ -76,7 +76,7 @@ def pair_words(answer: bytes) -> str:
 def last_words(request: bytes, answer: bytes, pairs: int) -> str:
     """A request's last answer, or nothing where this is none to it. What the words leave out has to be zero."""
     command = request[0] if len(request) == RECORD else 0
-    fields = unpacked(answer) if len(answer) == RECORD else None
+    fields = unpacked(answer)
     if not fields or fields.first >= len(NUMBERS):
         return ""
     words, shown = NUMBERS[fields.first], Record(fields.first, command)
