@@ -56,7 +56,7 @@ class Run(unittest.TestCase):
     def run_it(self, *arguments, given=b"", command=None, place=None):
         return subprocess.run(
             [command or self.top / "run", *arguments],
-            input=given, cwd=place or self.outside, env={"PATH": str(self.tools)}, capture_output=True, check=False,
+            input=given, cwd=place or self.outside, env={"PATH": str(self.tools), "PYTHONIOENCODING": "ascii"}, capture_output=True, check=False,
         )
 
     def builds(self):
