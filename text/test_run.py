@@ -56,7 +56,11 @@ class Run(unittest.TestCase):
     def run_it(self, *arguments, given=b"", command=None, place=None):
         return subprocess.run(
             [command or self.top / "run", *arguments],
-            input=given, cwd=place or self.outside, env={"PATH": str(self.tools), "PYTHONIOENCODING": "ascii"}, capture_output=True, check=False,
+            input=given,
+            cwd=place or self.outside,
+            env={"PATH": str(self.tools), "PYTHONIOENCODING": "ascii"},
+            capture_output=True,
+            check=False,
         )
 
     def builds(self):
@@ -123,8 +127,9 @@ class Run(unittest.TestCase):
         self.ends(self.run_it("--text", "-"), 2, b"", "run: Python 3 is missing: no command 'python3'")
 
     def test_wrong_calls(self):
-        calls = "--help|--text|--words|--tape|a b|--text --tape|--words --text|--text a b|--text a --words|--tape a --text|a b c|--tape --text a b"
-        for call in calls.split("|"):
+        two = "a b|--text --tape|--words --text"
+        more = "a b c|--text a b|--text a --words|--tape a --text|--tape --text a b"
+        for call in f"--help|--text|--words|--tape|{two}|{more}".split("|"):
             with self.subTest(call=call):
                 self.ends(self.run_it(*call.split()), 2, b"", "usage: run ")
         self.ends(self.run_it(""), 2, b"", "usage: run ")
@@ -157,12 +162,13 @@ class Run(unittest.TestCase):
         (self.top / "answers").write_bytes(BEGUN)
         script(self.top / "program", f'#!/bin/sh\ncat >"{self.outside}/given"\nexec cat "{self.top}/answers"\n')
         (self.outside / "tape").write_bytes(BEGIN)
-        self.ends(self.run_it("--text", "-", given="# sæl\nbegin 0".encode()), 0, "# sæl\nbegin 0 -> Done, slot 0, version 1\n".encode(), "run: building")
-        self.ends(self.run_it("--words", "tape"), 0, b"begin 0 -> Done, slot 0, version 1\n")
-        self.ends(self.run_it("--words", "-", given=BEGIN), 0, b"begin 0 -> Done, slot 0, version 1\n")
+        words = b"begin 0 -> Done, slot 0, version 1\n"
+        title = "# sæl\n".encode()
+        self.ends(self.run_it("--text", "-", given=title + b"begin 0"), 0, title + words, "run: building")
+        self.ends(self.run_it("--words", "tape"), 0, words)
+        self.ends(self.run_it("--words", "-", given=BEGIN), 0, words)
         self.assertEqual((self.outside / "given").read_bytes(), BEGIN)
-        ran = self.run_it("--text", "-", given=b"begin 0\nbegin 1")
-        self.ends(ran, 1, b"begin 0 -> Done, slot 0, version 1\n", "run: no answer to: begin 1\n")
+        self.ends(self.run_it("--text", "-", given=b"begin 0\nbegin 1"), 1, words, "run: no answer to: begin 1\n")
 
     def test_without_words_it_runs_the_sample(self):
         script(self.top / "program", f'#!/bin/sh\nexec cat >"{self.outside}/given"\n')
