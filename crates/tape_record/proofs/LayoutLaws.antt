@@ -1,11 +1,11 @@
--- Laws of a record's 128 bytes: their number, and how a writer lays them piece by piece. Assumes nothing.
+-- Laws of a record's 128 bytes: their number, the zeros among them, and how a writer lays them piece by piece. Assumes nothing.
 use Prim.Native.Nat.{ℕ, suc, _+_, _-_, _≤_, _<_}
 use mathlib.Core.Path.{_≡_, refl, sym, ap, _∙_}
-use mathlib.Core.List.{List, [], _∷_, _++_, append-nil}
+use mathlib.Core.List.{List, [], _∷_, _++_, append-assoc, append-nil}
 use native.Mathlib.Numerals.{towards-suc}
 use native.Mathlib.Omega.{arith}
-use lib.ListN.{length, set, length-append, length-replicate}
-use lib.Seq.{sets-eq}
+use lib.ListN.{length, take, drop, set, length-append, length-replicate}
+use lib.Seq.{take-at, drop-at, sets-eq}
 use Rattle.keycode.specs.Number.{be}
 use Rattle.keycode.specs.Buffer.{put}
 use Rattle.keycode.proofs.NumberLaws.{length-be}
@@ -24,6 +24,32 @@ module _ (a b w : ℕ) (key value : List ℕ) (k : length key ≤ keyRoom) (v : 
 pub plainly-long : (number command : ℕ) → length (plainly number command) ≡ recordLen
 unfolding plainly
 plainly-long number command = laid-long number command 0 [] [] (omega arith) (omega arith)
+
+-- ---- the bytes past the lengths
+
+module _ (a b w : ℕ) (key value : List ℕ) (k : length key ≤ keyRoom) where
+  pub behind-key : take (valueAt - (keyAt + length key)) (drop (keyAt + length key) (laid a b w key value)) ≡ zeros (keyRoom - length key)
+  unfolding laid padded
+  behind-key =
+      let four : List ℕ = a ∷ b ∷ length key ∷ length value ∷ [] in
+      let p = four ++ (be 8 w ++ key) in
+      let z = zeros (keyRoom - length key) in
+      let v = value ++ zeros (valueRoom - length value) in
+      let e : four ++ (be 8 w ++ ((key ++ z) ++ v)) ≡ p ++ (z ++ v) = simp append-assoc in
+      let l : length p ≡ keyAt + length key = simp (length-append, length-be) (omega arith) in
+      let n : length z ≡ valueAt - (keyAt + length key) = length-replicate (keyRoom - length key) 0 ∙ omega arith in
+      rw (e, drop-at p (z ++ v) (keyAt + length key) l, take-at z v (valueAt - (keyAt + length key)) n)
+
+  pub behind-value : drop (valueAt + length value) (laid a b w key value) ≡ zeros (valueRoom - length value)
+  unfolding laid padded
+  behind-value =
+      let four : List ℕ = a ∷ b ∷ length key ∷ length value ∷ [] in
+      let ks = key ++ zeros (keyRoom - length key) in
+      let p = four ++ (be 8 w ++ (ks ++ value)) in
+      let z = zeros (valueRoom - length value) in
+      let e : four ++ (be 8 w ++ (ks ++ (value ++ z))) ≡ p ++ z = simp append-assoc in
+      let l : length p ≡ valueAt + length value = simp (length-append, length-be, length-replicate) (omega arith) in
+      rw (e, drop-at p z (valueAt + length value) l)
 
 -- ---- zeros laid one by one
 

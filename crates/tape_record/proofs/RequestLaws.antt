@@ -1,19 +1,22 @@
--- Laws of a record as a request: what each test of the code answers. Assumes nothing.
-use Prim.Native.Nat.{ℕ, suc, _+_, _-_, _^_, _≤_, _<_}
+-- Laws of a record as a request: what each test of the code answers, and that a record is proper exactly where it is the layout of
+-- fields within its command's limits. Assumes nothing.
+use Prim.Native.Nat.{ℕ, zero, suc, _+_, _-_, _^_, _≤_, _<_}
 use mathlib.Core.Path.{_≡_, refl, sym, ap, _∙_}
 use mathlib.Core.Bool.{Bool, true, false, not}
-use mathlib.Core.List.{List, [], _∷_}
+use mathlib.Core.List.{List, [], _∷_, _++_, append-nil}
 use native.Mathlib.Numerals.{add-one}
 use native.Mathlib.Omega.{arith}
 use lib.Dec.{eqb, leb}
-use lib.ListN.{length, take, drop, getD, drop-of-length-le, length-drop}
-use lib.Seq.{drop-cons, take-all}
-use borrow.Author.Tests.{le-leb, lt-leb, leb-true, eq-eqb, ne-eqb, not-true, not-false}
+use lib.ListN.{length, take, drop, getD, drop-of-length-le, length-take, length-drop, take-append-drop}
+use lib.Seq.{drop-cons, drop-drop, take-all, take-at, take-add, length-take-le}
+use borrow.Author.Tests.{le-leb, lt-leb, leb-true, eqb-true, eq-eqb, ne-eqb, not-true, not-false}
 use Rattle.keycode.specs.Tests.{pick}
-use Rattle.keycode.specs.Number.{num}
+use Rattle.keycode.specs.Number.{be, num}
+use Rattle.keycode.proofs.NumberLaws.{Bytes, bytes-take, bytes-drop, length-be, num-any, be-num}
 use Rattle.tape_record.specs.declared.request.Request.{Request}
-use Rattle.tape_record.specs.Layout.{keyAt, valueAt, keyRoom, valueRoom}
-use Rattle.tape_record.specs.Requests.{fieldsOf, between, slotMost, keyMost, valueMost, versionMost, modest, allZero, cleared, proper}
+use Rattle.tape_record.specs.Layout.{recordLen, keyAt, valueAt, keyRoom, valueRoom, zeros, padded, laid}
+use Rattle.tape_record.specs.Requests.{fieldsOf, between, slotMost, keyMost, valueMost, versionMost, keyIn, valueIn, modest, allZero, cleared, proper}
+use Rattle.tape_record.proofs.LayoutLaws.{behind-key, behind-value}
 
 pub fields-read : (r : List ℕ) {b k v n : ℕ} → b ≡ getD r 1 0 → k ≡ getD r 2 0 → v ≡ getD r 3 0 → n ≡ num (take 8 (drop 4 r))
     → record { command = getD r 0 0; slot = b; klen = k; vlen = v; version = n } ≡ fieldsOf r
@@ -158,3 +161,102 @@ module _ (r : List ℕ) {q : Request} {b : Bool} (e : q ≡ fieldsOf r) (f : b �
   pub proper-so : b ≡ true → {z : Bool} → z ≡ cleared r (q .klen) (q .vlen) → z ≡ proper r
   unfolding proper
   proper-so h g = g ∙ rw (← e, ← f, h)
+
+-- ---- proper is what document 01 lays out
+
+zeros-zero : (n : ℕ) → allZero (zeros n) ≡ true
+unfolding allZero
+zeros-zero zero = refl
+zeros-zero (suc n) = zeros-zero n
+
+zero-zeros : (xs : List ℕ) → allZero xs ≡ true → xs ≡ zeros (length xs)
+unfolding allZero
+zero-zeros [] e = refl
+zero-zeros (x ∷ xs) e = let p = both (eqb x 0) (allZero xs) e in rw (eqb-true x 0 (p .0)) (ap (λ (l : List ℕ). 0 ∷ l) (zero-zeros xs (p .1)))
+
+-- the layout of fields within the command's limits is proper
+module _ (c s w : ℕ) (key value : List ℕ) (m : modest (record { command = c; slot = s; klen = length key; vlen = length value; version = w }) ≡ true) where
+  fields-laid : fieldsOf (laid c s w key value) ≡ record { command = c; slot = s; klen = length key; vlen = length value; version = w }
+  unfolding fieldsOf laid
+  fields-laid =
+      let e : num (take 8 (be 8 w ++ (padded keyRoom key ++ padded valueRoom value))) ≡ w =
+      ap num (take-at (be 8 w) (padded keyRoom key ++ padded valueRoom value) 8 (length-be 8 w)) ∙ num-any 7 w in
+      λ j. record { command = c; slot = s; klen = length key; vlen = length value; version = e j }
+
+  pub laid-proper : proper (laid c s w key value) ≡ true
+  unfolding proper cleared
+  laid-proper =
+      let k = modest-rooms (record { command = c; slot = s; klen = length key; vlen = length value; version = w }) m .0 in
+      rw (fields-laid, m, behind-key c s w key value k, zeros-zero (keyRoom - length key), behind-value c s w key value k)
+      (zeros-zero (valueRoom - length value))
+
+-- a run with zeros behind it
+run-padded : (t : List ℕ) (n room : ℕ) → n ≤ room → room ≤ length t → allZero (take (room - n) (drop n t)) ≡ true → t ≡ padded room (take n t) ++ drop room t
+unfolding padded
+run-padded t n room h k e =
+    let l : length (take n t) ≡ n = length-take-le n t (omega arith) in
+    let m : length (take (room - n) (drop n t)) ≡ room - n = simp (length-take, length-drop) (omega arith) in
+    let z : take (room - n) (drop n t) ≡ zeros (room - n) = zero-zeros (take (room - n) (drop n t)) e ∙ ap zeros m in
+    let q : n + (room - n) ≡ room = omega arith in
+    let a : take room t ≡ take n t ++ take (room - n) (drop n t) = ap (λ (x : ℕ). take x t) (sym q) ∙ take-add n (room - n) t in
+    sym (take-append-drop room t) ∙ rw (a, z, l)
+
+four-first : (r : List ℕ) → 4 ≤ length r → r ≡ getD r 0 0 ∷ getD r 1 0 ∷ getD r 2 0 ∷ getD r 3 0 ∷ drop 4 r
+four-first [] h = absurd (omega arith)
+four-first (a ∷ []) h = absurd (omega arith)
+four-first (a ∷ b ∷ []) h = absurd (omega arith)
+four-first (a ∷ b ∷ c ∷ []) h = absurd (omega arith)
+four-first (a ∷ b ∷ c ∷ d ∷ r) h = refl
+
+-- a proper record is the layout of its own fields
+module _ (r : List ℕ) (ok : proper r ≡ true) (long : length r ≡ recordLen) (bytes : Bytes r) where
+  proper-rooms : (fieldsOf r .klen ≤ keyRoom) × (fieldsOf r .vlen ≤ valueRoom)
+  unfolding proper
+  proper-rooms = modest-rooms (fieldsOf r) (both (modest (fieldsOf r)) _ ok .0)
+
+  proper-cleared : cleared r (fieldsOf r .klen) (fieldsOf r .vlen) ≡ true
+  unfolding proper
+  proper-cleared = both (modest (fieldsOf r)) _ ok .1
+
+  number-part : drop 4 r ≡ be 8 (fieldsOf r .version) ++ drop keyAt r
+  unfolding fieldsOf
+  number-part =
+      let x = take 8 (drop 4 r) in
+      let l : length x ≡ 8 = simp (length-take, length-drop) (omega arith) in
+      let e : be 8 (num x) ≡ x = ap (λ (k : ℕ). be k (num x)) (sym l) ∙ be-num x (bytes-take 8 (drop 4 r) (bytes-drop 4 r bytes)) in
+      sym (take-append-drop 8 (drop 4 r)) ∙ rw (e, drop-drop 8 4 r)
+
+  key-part : drop keyAt r ≡ padded keyRoom (keyIn r) ++ drop valueAt r
+  unfolding keyIn cleared
+  key-part =
+      let k = fieldsOf r .klen in
+      let n : valueAt - (keyAt + k) ≡ keyRoom - k = omega arith in
+      let z = both (allZero (take (valueAt - (keyAt + k)) (drop (keyAt + k) r))) _ proper-cleared .0 in
+      run-padded (drop keyAt r) k keyRoom (proper-rooms .0) (simp length-drop (omega arith)) (rw (drop-drop k keyAt r) (rw n at z))
+      ∙ rw (drop-drop keyRoom keyAt r)
+
+  value-part : drop valueAt r ≡ padded valueRoom (valueIn r)
+  unfolding valueIn cleared
+  value-part =
+      let k = fieldsOf r .klen in
+      let v = fieldsOf r .vlen in
+      let z = both (allZero (take (valueAt - (keyAt + k)) (drop (keyAt + k) r))) _ proper-cleared .1 in
+      let t : take (valueRoom - v) (drop (valueAt + v) r) ≡ drop (valueAt + v) r = take-all (valueRoom - v) (drop (valueAt + v) r) (simp length-drop (omega arith)) in
+      run-padded (drop valueAt r) v valueRoom (proper-rooms .1) (simp length-drop (omega arith)) (rw (drop-drop v valueAt r, t) z)
+      ∙ rw (drop-drop valueRoom valueAt r, drop-of-length-le r {i = recordLen} (omega arith)) (append-nil (padded valueRoom (valueIn r)))
+
+  key-long : length (keyIn r) ≡ getD r 2 0
+  unfolding keyIn fieldsOf
+  key-long = length-take-le (getD r 2 0) (drop keyAt r) (simp length-drop (omega (arith, proper-rooms .0)))
+
+  value-long : length (valueIn r) ≡ getD r 3 0
+  unfolding valueIn fieldsOf
+  value-long = length-take-le (getD r 3 0) (drop valueAt r) (simp length-drop (omega (arith, proper-rooms .1)))
+
+  parts-laid : getD r 0 0 ∷ getD r 1 0 ∷ getD r 2 0 ∷ getD r 3 0 ∷ (be 8 (fieldsOf r .version) ++ (padded keyRoom (keyIn r) ++ padded valueRoom (valueIn r)))
+      ≡ laid (fieldsOf r .command) (fieldsOf r .slot) (fieldsOf r .version) (keyIn r) (valueIn r)
+  unfolding laid fieldsOf
+  parts-laid = rw (key-long, value-long)
+
+  pub proper-laid : r ≡ laid (fieldsOf r .command) (fieldsOf r .slot) (fieldsOf r .version) (keyIn r) (valueIn r)
+  proper-laid = four-first r (omega arith) ∙ rw (number-part, key-part, value-part) parts-laid

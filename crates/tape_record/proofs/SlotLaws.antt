@@ -1,16 +1,20 @@
--- Laws of the handle slots: what the code reads and lays. Assumes nothing.
-use Prim.Native.Nat.{ℕ, _+_, _-_, _*_, _≤_, _<_}
+-- Laws of the handle slots: what the code reads and lays, that a handle put into a slot is read back, and that the other slots stay.
+-- Assumes nothing.
+use Prim.Native.Nat.{ℕ, zero, suc, _+_, _-_, _*_, _≤_, _<_}
 use mathlib.Core.Path.{_≡_, refl, sym, ap, _∙_}
 use mathlib.Core.Bool.{Bool, true, false, not}
-use mathlib.Core.List.{List, [], _∷_, _++_, append-nil}
+use mathlib.Core.List.{List, [], _∷_, _++_, append-assoc, append-nil}
+use native.Mathlib.Decide.{decLt}
+use native.Mathlib.Nat.{add-zero}
 use native.Mathlib.Numerals.{towards-suc}
 use native.Mathlib.Omega.{arith}
 use lib.Dec.{eqb}
-use lib.ListN.{length, take, drop, getD, set, length-take, length-drop}
-use lib.Seq.{sets-eq}
+use lib.ListN.{length, take, drop, getD, set, length-append, length-take, length-drop}
+use lib.Seq.{sets-eq, take-all, take-take, take-at, drop-at, drop-drop, drop-append-add, length-take-le, getD-take, getD-drop}
 use Rattle.keycode.specs.Buffer.{put}
 use Rattle.keycode.specs.Limits.{maxOpen}
-use Rattle.keycode.proofs.BufferLaws.{put-front, put-put}
+use Rattle.keycode.proofs.BufferLaws.{length-put, put-front, put-put}
+use Rattle.entry.proofs.EntryLaws.{laid-before}
 use Rattle.handle.specs.declared.handle.Handle.{Handle}
 use Rattle.tape_record.specs.Layout.{zeros}
 use Rattle.tape_record.specs.Slots.{slotWords, allWords, filled, handleAt, kindOf, wordsOf, fill, empty}
@@ -39,3 +43,137 @@ module _ (s : List ℕ) (i : ℕ) (long : length s ≡ allWords) (below : i < 16
       f
       ∙ rw (three-laid s at k (h .version) (h .count) (omega arith), e)
       (put-put s at (kindOf (h .«read_only») ∷ h .version ∷ h .count ∷ []) (omega arith) (h .set))
+
+-- ---- a slot's words
+
+abbrev wordsAt : List ℕ → ℕ → List ℕ
+wordsAt s i = take slotWords (drop (slotWords * i) s)
+
+-- a part that ends within the first elements
+part-front : (o n m : ℕ) (l : List ℕ) → o + n ≤ m → take n (drop o (take m l)) ≡ take n (drop o l)
+part-front zero n m l h = take-take n m l (omega arith)
+part-front (suc o) n zero l h = absurd (omega arith)
+part-front (suc o) n (suc m) [] h = refl
+part-front (suc o) n (suc m) (x ∷ l) h = part-front o n m l (omega arith)
+
+-- what a slot says stands in its words
+module _ (s : List ℕ) (i : ℕ) where
+  word-at : (k : ℕ) → k < slotWords → getD (wordsAt s i) k 0 ≡ getD s (slotWords * i + k) 0
+  word-at k h = getD-take slotWords (drop (slotWords * i) s) k 0 h ∙ getD-drop (slotWords * i) s k 0
+
+  first-word : getD (wordsAt s i) 0 0 ≡ getD s (slotWords * i) 0
+  first-word = word-at 0 (omega arith) ∙ ap (λ (k : ℕ). getD s k 0) (add-zero (slotWords * i))
+
+  set-words : take maxOpen (drop 3 (wordsAt s i)) ≡ take maxOpen (drop (slotWords * i + 3) s)
+  set-words = part-front 3 maxOpen slotWords (drop (slotWords * i) s) (omega arith) ∙ ap (take maxOpen) (drop-drop 3 (slotWords * i) s)
+
+  handle-words : handleAt (wordsAt s i) 0 ≡ handleAt s i
+  unfolding handleAt
+  handle-words = λ j. record { version = word-at 1 (omega arith) j; «read_only» = not (eqb (first-word j) 1); count = word-at 2 (omega arith) j; set = set-words j }
+
+  filled-words : filled (wordsAt s i) 0 ≡ filled s i
+  unfolding filled
+  filled-words = ap (λ (k : ℕ). not (eqb k 0)) first-word
+
+-- words laid over a slot are its words, and no other slot's
+module _ (s : List ℕ) (i : ℕ) (long : length s ≡ allWords) (below : i < 16) (ws : List ℕ) (nineteen : length ws ≡ slotWords) where
+  words-own : wordsAt (put s (slotWords * i) ws) i ≡ ws
+  unfolding put
+  words-own =
+      let at = slotWords * i in
+      let rest = drop (at + length ws) s in
+      rw (append-assoc (take at s) ws rest, drop-at (take at s) (ws ++ rest) at (length-take-le at s (omega arith)), take-at ws rest slotWords nineteen)
+
+  words-past : (o : ℕ) → slotWords * i + slotWords ≤ o → drop o (put s (slotWords * i) ws) ≡ drop o s
+  unfolding put
+  words-past o h =
+      let at = slotWords * i in
+      let p = take at s ++ ws in
+      let l : length p ≡ at + length ws = length-append (take at s) ws ∙ ap (λ (k : ℕ). k + length ws) (length-take-le at s (omega arith)) in
+      let e : o ≡ length p + (o - length p) = omega arith in
+      let f : at + length ws + (o - length p) ≡ o = omega arith in
+      ap (λ (k : ℕ). drop k (p ++ drop (at + length ws) s)) e
+      ∙ drop-append-add p (drop (at + length ws) s) (o - length p)
+      ∙ drop-drop (o - length p) (at + length ws) s
+      ∙ ap (λ (k : ℕ). drop k s) f
+
+  words-other : (j : ℕ) → (j ≡ i → ⊥) → wordsAt (put s (slotWords * i) ws) j ≡ wordsAt s j
+  words-other j n = elim (decLt j i) [
+    | yes h ↦ (let at = slotWords * i in
+        let o = slotWords * j in
+        sym (part-front o slotWords at (put s at ws) (omega arith))
+        ∙ ap (λ (l : List ℕ). take slotWords (drop o l)) (laid-before s at ws (omega arith))
+        ∙ part-front o slotWords at s (omega arith))
+    | no h ↦ ap (take slotWords) (words-past (slotWords * j) (omega arith))
+  ]
+
+  handle-other : (j : ℕ) → (j ≡ i → ⊥) → handleAt (put s (slotWords * i) ws) j ≡ handleAt s j
+  handle-other j n = sym (handle-words (put s (slotWords * i) ws) j) ∙ ap (λ (l : List ℕ). handleAt l 0) (words-other j n) ∙ handle-words s j
+
+  filled-other : (j : ℕ) → (j ≡ i → ⊥) → filled (put s (slotWords * i) ws) j ≡ filled s j
+  filled-other j n = sym (filled-words (put s (slotWords * i) ws) j) ∙ ap (λ (l : List ℕ). filled l 0) (words-other j n) ∙ filled-words s j
+
+-- ---- a slot filled
+
+kind-back : (ro : Bool) → not (eqb (kindOf ro) 1) ≡ ro
+unfolding kindOf
+kind-back true = refl
+kind-back false = refl
+
+kind-marks : (ro : Bool) → not (eqb (kindOf ro) 0) ≡ true
+unfolding kindOf
+kind-marks true = refl
+kind-marks false = refl
+
+module _ (s : List ℕ) (i : ℕ) (long : length s ≡ allWords) (below : i < 16) (h : Handle) (whole : length (h .set) ≡ maxOpen) where
+  words-long : length (wordsOf h) ≡ slotWords
+  unfolding wordsOf
+  words-long = omega arith
+
+  words-read : handleAt (wordsOf h) 0 ≡ h
+  unfolding handleAt wordsOf
+  words-read = λ j. record { version = h .version; «read_only» = kind-back (h .«read_only») j; count = h .count; set = take-all maxOpen (h .set) (omega arith) j }
+
+  words-mark : filled (wordsOf h) 0 ≡ true
+  unfolding filled wordsOf
+  words-mark = kind-marks (h .«read_only»)
+
+  pub length-fill : length (fill s i h) ≡ allWords
+  unfolding fill
+  length-fill = length-put s (slotWords * i) (wordsOf h) (omega (arith, words-long)) ∙ long
+
+  pub slot-back : handleAt (fill s i h) i ≡ h
+  unfolding fill
+  slot-back = sym (handle-words (fill s i h) i) ∙ ap (λ (l : List ℕ). handleAt l 0) (words-own s i long below (wordsOf h) words-long) ∙ words-read
+
+  pub filled-fill : filled (fill s i h) i ≡ true
+  unfolding fill
+  filled-fill = sym (filled-words (fill s i h) i) ∙ ap (λ (l : List ℕ). filled l 0) (words-own s i long below (wordsOf h) words-long) ∙ words-mark
+
+  -- the other slots
+  pub handle-fill-other : (j : ℕ) → (j ≡ i → ⊥) → handleAt (fill s i h) j ≡ handleAt s j
+  unfolding fill
+  handle-fill-other = handle-other s i long below (wordsOf h) words-long
+
+  pub filled-fill-other : (j : ℕ) → (j ≡ i → ⊥) → filled (fill s i h) j ≡ filled s j
+  unfolding fill
+  filled-fill-other = filled-other s i long below (wordsOf h) words-long
+
+-- ---- a slot emptied
+
+module _ (s : List ℕ) (i : ℕ) (long : length s ≡ allWords) (below : i < 16) where
+  pub length-empty : length (empty s i) ≡ allWords
+  unfolding empty
+  length-empty = length-put s (slotWords * i) (zeros slotWords) (omega arith) ∙ long
+
+  pub filled-empty : filled (empty s i) i ≡ false
+  unfolding empty filled
+  filled-empty = sym (filled-words (empty s i) i) ∙ ap (λ (l : List ℕ). filled l 0) (words-own s i long below (zeros slotWords) refl)
+
+  pub handle-empty-other : (j : ℕ) → (j ≡ i → ⊥) → handleAt (empty s i) j ≡ handleAt s j
+  unfolding empty
+  handle-empty-other = handle-other s i long below (zeros slotWords) refl
+
+  pub filled-empty-other : (j : ℕ) → (j ≡ i → ⊥) → filled (empty s i) j ≡ filled s j
+  unfolding empty
+  filled-empty-other = filled-other s i long below (zeros slotWords) refl
