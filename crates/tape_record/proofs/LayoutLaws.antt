@@ -1,6 +1,6 @@
 -- Laws of a record's 128 bytes: their number, the zeros among them, and how a writer lays them piece by piece. Assumes nothing.
 use Prim.Native.Nat.{ℕ, suc, _+_, _-_, _≤_, _<_}
-use mathlib.Core.Path.{_≡_, refl, sym, ap, _∙_}
+use mathlib.Core.Path.{_≡_, refl, sym, _∙_}
 use mathlib.Core.List.{List, [], _∷_, _++_, append-assoc, append-nil}
 use native.Mathlib.Numerals.{towards-suc}
 use native.Mathlib.Omega.{arith}

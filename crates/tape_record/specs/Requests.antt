@@ -1,8 +1,8 @@
 -- A record as a request: its fields, and whether it is one that can be carried out. Document 01, 'Tape'. Assumes nothing.
 use Prim.Native.Nat.{ℕ, _+_, _-_, _^_}
-use mathlib.Core.Bool.{Bool, true, false, not}
+use mathlib.Core.Bool.{Bool, true, false}
 use mathlib.Core.List.{List, [], _∷_}
-use lib.ListN.{length, take, drop, getD}
+use lib.ListN.{take, drop, getD}
 use lib.Dec.{eqb, leb}
 use Rattle.keycode.specs.Tests.{pick}
 use Rattle.keycode.specs.Number.{num}

@@ -1,8 +1,8 @@
 -- The handle slots of a tape: sixteen, in lent words, nineteen a slot. The first word of a slot is 0 where it is empty, 1 with a
 -- read-write handle and 2 with a read-only one; then the handle's version, count and set. Document 01, 'Tape'. Assumes nothing.
 use Prim.Native.Nat.{ℕ, _+_, _*_}
-use mathlib.Core.Bool.{Bool, true, false, not}
-use mathlib.Core.List.{List, [], _∷_}
+use mathlib.Core.Bool.{Bool, true, not}
+use mathlib.Core.List.{List, _∷_}
 use lib.ListN.{take, drop, getD}
 use lib.Dec.{eqb, leb}
 use Rattle.keycode.specs.Tests.{pick}
