@@ -1,0 +1,51 @@
+// What goes from one record to the next by value.
+use keycode::Refusal;
+use recovery::Changed;
+use recovery::Used;
+use tape_record::layout::RECORD;
+ghost use mathlib.Core.Path.{_≡_};
+ghost use mathlib.Core.Bool.{false};
+ghost use Rattle.isolation.specs.World.{usedBy, isDone};
+ghost use Rattle.tape_record.specs.Layout.{recordLen};
+
+// The used length, whether the second of the two lent buffers is the log, and how many bytes of answers were laid.
+pub struct Turn {
+    pub used: Used,
+    pub other: bool,
+    pub len: usize,
+}
+
+pub enum Taken {
+    Done(Turn),
+    Refused(Refusal),
+}
+
+// One record of answers, and the log where it was.
+pub fn one_answer(used: Used) -> Turn
+    ensures { λ t. ⌜ t ≡ record { used = used; other = false; len = recordLen } ⌝ }
+{
+    Turn {
+        used,
+        other: false,
+        len: RECORD,
+    }
+}
+
+// The used length that an answer leaves.
+pub fn used_after(answer: Changed, used: Used) -> Used
+    ensures { λ u. ⌜ u .len ≡ usedBy answer (used .len) ⌝ }
+{
+    match answer {
+        Changed::Done(u) => u,
+        Changed::Refused(_) => used,
+    }
+}
+
+pub fn is_done(answer: Changed) -> bool
+    ensures { λ r. ⌜ r ≡ isDone answer ⌝ }
+{
+    match answer {
+        Changed::Done(_) => true,
+        Changed::Refused(_) => false,
+    }
+}
