@@ -1,7 +1,6 @@
 // The bench program: a tape on standard input, its answers on standard output. What a record does is crate tape's; here are the buffers,
 // and the bytes from one end to the other. Document 01, 'Tape'.
 mod feed;
-mod sink;
 
 use feed::run;
 use recovery::Used;
@@ -26,8 +25,6 @@ fn main() {
     let mut slots = [0u64; SLOTS];
     let mut record = [0u8; 128];
     let mut answers = [0u8; ANSWERS];
-    let mut chunk = [0u8; 65536];
-    let mut sink = [0u8; 65536];
     open(&first, Used { len: 0 }, &mut table);
     run(
         &mut first,
@@ -36,7 +33,5 @@ fn main() {
         &mut slots,
         &mut record,
         &mut answers,
-        &mut chunk,
-        &mut sink,
     );
 }
