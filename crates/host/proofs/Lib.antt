@@ -1,0 +1,3 @@
+-- The laws of the host's functions.
+pub mod AnswerLaws
+pub mod Unique

@@ -1,0 +1,3 @@
+-- The definitions of the host's functions: an answer in one number, and what each function promises.
+pub mod Answers
+pub mod Promises
