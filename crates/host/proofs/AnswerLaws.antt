@@ -30,7 +30,7 @@ use Rattle.keys.specs.declared.keys.Decoded.{Decoded}
 use Rattle.keys.specs.declared.keys.Decoded.the-variants.{Whole, Refused as NotWhole}
 use Rattle.keys.proofs.EncodeLaws.{measure-says, two-put, version-length, write-length, unversioned-length}
 use Rattle.host.specs.Answers.{half, lengthOf, packed, Tells}
-use Rattle.host.specs.Promises.{Gives, Encodes, Unescapes, Decodes, fieldCount, split, laidOut, bytesOf, decodedLength, decodedBytes}
+use Rattle.host.specs.Promises.{Gives, Encodes, Unescapes, Decodes, fieldCount, split, laidOut, splitBytes, decodedLength, decodedBytes}
 use Rattle.host.specs.declared.coding.Split.{Split}
 
 -- ---- the halves
@@ -112,7 +112,7 @@ module _ (b d : List ℕ) where
         rw (le-leb fieldCount (length d) h, ← e, g, q)
         (record { answer = packed-tells (Refused w) (omega arith); buffer = refused-stays w d d })
 
-    pub decode-whole : (k : Key) {s : Split} {out : List ℕ} → got ≡ Whole k → s ≡ split k → out ≡ put d 0 (bytesOf s) → r ≡ packed (Done fieldCount) → Decodes b d r out
+    pub decode-whole : (k : Key) {s : Split} {out : List ℕ} → got ≡ Whole k → s ≡ split k → out ≡ put d 0 (splitBytes s) → r ≡ packed (Done fieldCount) → Decodes b d r out
     decode-whole k g p w q =
         rw (le-leb fieldCount (length d) h, ← e, g, q, w, p)
-        (record { answer = packed-tells (Done fieldCount) (omega arith); buffer = put-front d (bytesOf (split k)) })
+        (record { answer = packed-tells (Done fieldCount) (omega arith); buffer = put-front d (splitBytes (split k)) })

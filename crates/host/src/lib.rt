@@ -2,3 +2,6 @@
 // 01, 'Parts'. host/tjaldrum.h says the same to a C caller.
 pub mod answers;
 pub mod coding;
+pub mod opening;
+pub mod place;
+pub mod slots;
