@@ -1,4 +1,4 @@
--- `recovery::opening::take_del` meets its contract. Assumes nothing.
+-- `take_del` does to the words what recovery's does.
 use Rattle.recovery.proofs.TurnLaws.{found-among, del-takes}
 use Rattle.host.specs.Table.{wordsIn}
 use borrow.Author.Needs.{needs}

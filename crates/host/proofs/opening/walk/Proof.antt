@@ -1,3 +1,4 @@
+-- `walk` does to the words what recovery's does, and keeps the table's length.
 use Prim.Native.Nat.{_-_}
 use mathlib.Core.Path.{_≡_, refl, _∙_}
 use lib.ListN.{length}
@@ -7,10 +8,6 @@ use Rattle.host.proofs.OpenLaws.{cleared}
 use borrow.Author.Needs.{needs}
 use Rattle.host.proofs.opening.walk.Statement.{statement}
 use Rattle.host.proofs.opening.walk.Tie as tie
-use Rattle.host.proofs.opening.walk.Reads as reads
-use Rattle.host.proofs.opening.walk.Lts as lts
-use Rattle.host.proofs.opening.take_turn.Reads as take-turn-reads
-use Rattle.host.proofs.slots.clear.Reads as clear-reads
 
 abbrev Inv-loop : tie.InvT-loop
 Inv-loop log used table₀ at₀ count₀ table at count = Walking log used (length (wordsIn table₀)) (wordsIn table) at count × (length table ≡ length table₀)
@@ -18,39 +15,21 @@ Inv-loop log used table₀ at₀ count₀ table at count = Walking log used (len
 abbrev μ-loop : tie.MeasureT-loop
 μ-loop log used table₀ at₀ count₀ table at count = used - at
 
--- src/opening.rt:103:5
 loop-holds : tie.Need-loop-holds Inv-loop μ-loop
 loop-holds c = let a = c .before .before .args in (walk-start (a .log .now) (a .used) (wordsIn (a .table .now)) (c .before .before .pre .1), refl)
 
--- src/opening.rt:104:13
 take-turn-requires : tie.Need-take-turn-requires Inv-loop μ-loop
 take-turn-requires c κs = (c .before .loop .inv .0 .within, c .before .before .before .before .pre .0, walk-room (c .before .loop .inv .0))
 
--- src/opening.rt:107:38
-enum-told : tie.Need-enum-told Inv-loop μ-loop
-enum-told c = search needs
-
--- src/opening.rt:107:17
 same-length : tie.Need-same-length Inv-loop μ-loop
 same-length c = c .before .before .before .before .take-turn .kept .1 .1 .0 ∙ c .before .before .before .before .before .before .loop .inv .1
 
--- src/opening.rt:107:17
 returns : tie.Need-returns Inv-loop μ-loop
 returns c = walk-over (c .before .before .before .before .before .before .loop .inv .0) (c .before .before .before .before .take-turn .ensures) (c .enum-told .given .1)
 
--- src/opening.rt:110:23
-enum-told-2 : tie.Need-enum-told-2 Inv-loop μ-loop
-enum-told-2 c = search needs
-
--- src/opening.rt:110:17
-clear-requires : tie.Need-clear-requires Inv-loop μ-loop
-clear-requires c κs = search needs
-
--- src/opening.rt:111:17
 same-length-2 : tie.Need-same-length-2 Inv-loop μ-loop
 same-length-2 c = c .before .before .clear .kept .0 ∙ c .before .before .before .before .before .before .before .before .take-turn .kept .1 .1 .0 ∙ c .before .before .before .before .before .before .before .before .before .before .loop .inv .1
 
--- src/opening.rt:111:17
 returns-2 : tie.Need-returns-2 Inv-loop μ-loop
 returns-2 c =
     let p = walk-full (c .before .before .before .before .before .before .before .before .before .before .loop .inv .0) (c .before .before .before .before .before .before .before .before .take-turn .ensures) (c .before .before .before .before .enum-told2 .given .1) in
@@ -59,15 +38,9 @@ returns-2 c =
       table = cleared (c .before .before .before .before .before .before .before .before .before .before .before .before .before .args .table .now) (c .before .before .before .before .before .before .before .before .take-turn .last .1 .1 .0) (c .before .before .clear .ensures) (c .before .before .before .before .before .before .before .before .take-turn .kept .1 .1 .0 ∙ c .before .before .before .before .before .before .before .before .before .before .loop .inv .1) ∙ p .table;
     }
 
--- src/opening.rt:113:30
-enum-known-turn : tie.Need-enum-known-turn Inv-loop μ-loop
-enum-known-turn c = search needs
-
--- src/opening.rt:103:5
 loop-less : tie.Need-loop-less Inv-loop μ-loop
 loop-less c = walk-less (c .before .before .before .before .before .before .before .loop .inv .0) (c .before .before .before .before .before .take-turn .ensures) _ _ (c .before .turn .given .1)
 
--- src/opening.rt:103:5
 loop-again : tie.Need-loop-again Inv-loop μ-loop
 loop-again c = (walk-next (c .before .before .before .before .before .before .before .loop .inv .0) (c .before .before .before .before .before .take-turn .ensures) _ _ (c .before .turn .given .1), c .before .before .before .before .before .take-turn .kept .1 .1 .0 ∙ c .before .before .before .before .before .before .before .loop .inv .1)
 
@@ -79,13 +52,13 @@ walk-spec =
     μ-loop
     loop-holds
     take-turn-requires
-    enum-told
+    (λ c. search needs)
     same-length
     returns
-    enum-told-2
-    clear-requires
+    (λ c. search needs)
+    (λ c κs. search needs)
     same-length-2
     returns-2
-    enum-known-turn
+    (λ c. search needs)
     loop-less
     loop-again)

@@ -19,25 +19,13 @@ abbrev μ-loop : tie.MeasureT-loop
 loop-holds : tie.Need-loop-holds Inv-loop μ-loop
 loop-holds c = let a = c .before .before .before .args in halving-start (orderAt (a .log .now) (a .key .now) (slotsOf (a .count) (wordsIn (a .table .now)))) (a .count)
 
-order-at-requires : tie.Need-order-at-requires Inv-loop μ-loop
-order-at-requires c κs = omega arith
-
-enum-told : tie.Need-enum-told Inv-loop μ-loop
-enum-told c = search needs
-
 loop-again : tie.Need-loop-again Inv-loop μ-loop
 loop-again c = halving-up (c .before .before .before .before .loop .inv) (c .before .before .before .loop-test .taken) (c .before .before .order-at .ensures) (c .enum-told .given .1)
-
-enum-told-2 : tie.Need-enum-told-2 Inv-loop μ-loop
-enum-told-2 c = search needs
 
 returns : tie.Need-returns Inv-loop μ-loop
 returns c =
     let a = c .before .before .before .before .before .before .before .before .args in
     place-is (a .log .now) (a .key .now) (wordsIn (a .table .now)) (a .count) (halving-at (c .before .before .before .before .loop .inv) (c .before .before .before .loop-test .taken) (c .before .before .order-at .ensures) (c .enum-told2 .given .1))
-
-enum-told-3 : tie.Need-enum-told-3 Inv-loop μ-loop
-enum-told-3 c = search needs
 
 loop-again-2 : tie.Need-loop-again-2 Inv-loop μ-loop
 loop-again-2 c = halving-down (c .before .before .before .before .loop .inv) (c .before .before .before .loop-test .taken) (c .before .before .order-at .ensures) (c .enum-told3 .given .1)
@@ -56,14 +44,14 @@ find-spec =
     loop-holds
     (λ c. omega arith)
     (λ c. omega arith)
-    order-at-requires
-    enum-told
+    (λ c κs. omega arith)
+    (λ c. search needs)
     (λ c. omega arith)
     (λ c. omega arith)
     loop-again
-    enum-told-2
+    (λ c. search needs)
     returns
-    enum-told-3
+    (λ c. search needs)
     (λ c. omega arith)
     loop-again-2
     returns-2)

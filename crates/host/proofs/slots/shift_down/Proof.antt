@@ -1,10 +1,10 @@
--- `shift_down` copies words one slot down.
+-- `shift_down` copies bytes one slot down.
 use Prim.Native.Nat.{ℕ, _+_, _-_, _≤_}
 use mathlib.Core.Path.{_≡_, refl, ap, _∙_}
 use lib.ListN.{length, length-set}
-use Rattle.host.specs.Table.{slotBytes}
 use Rattle.keydir.specs.Words.{copied}
 use Rattle.keydir.proofs.WordLaws.{copy-none, down-turn}
+use Rattle.host.specs.Table.{slotBytes}
 use native.Mathlib.Omega.{arith}
 use Rattle.host.proofs.slots.shift_down.Statement.{statement}
 use Rattle.host.proofs.slots.shift_down.Tie as tie

@@ -1,10 +1,10 @@
--- `shift_up` copies words one slot up.
+-- `shift_up` copies bytes one slot up.
 use Prim.Native.Nat.{ℕ, _+_, _≤_}
 use mathlib.Core.Path.{_≡_, refl, ap, _∙_}
 use lib.ListN.{length, length-set}
-use Rattle.host.specs.Table.{slotBytes}
 use Rattle.keydir.specs.Words.{copied}
 use Rattle.keydir.proofs.WordLaws.{copy-none, up-turn}
+use Rattle.host.specs.Table.{slotBytes}
 use native.Mathlib.Omega.{arith}
 use Rattle.host.proofs.slots.shift_up.Statement.{statement}
 use Rattle.host.proofs.slots.shift_up.Tie as tie
