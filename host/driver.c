@@ -1,5 +1,5 @@
 /* A program over the exported functions: requests on standard input, a line each, answers on standard output, a line each, in order.
- * host/test runs the cases of host/cases through it; the runs against the Rust do so with many more.
+ * host/test builds it as target/host/driver and runs host/cases through it; the runs against the Rust send many more.
  *
  *   request                          calls
  *   encode KIND VERSION KEY ROOM     the encoding of kind 0 to 5 (header: tjaldrum_decode); KEY is - for kinds without a user key,
@@ -14,7 +14,7 @@
  * Words stand one space apart; a line ends with one newline. KIND, VERSION, USED, ROOM, NUMBER and LENGTH are decimal. KEY, BYTES, LOG
  * and BUFFER are bytes as lower-case hex digits, two a byte, or - for none. ROOM is how many bytes are lent for writing (of a table: 12
  * a slot); each is ff before the call. NUMBER and LENGTH are the two halves of the answer, BUFFER is all ROOM bytes after the call.
- * A line that is no request, or that lacks memory, ends the program with status 2 and a message; the end of input ends it with 0. */
+ * A line that is no request, or that finds no memory, ends the program with status 2 and a message; the end of input ends it with 0. */
 #define _POSIX_C_SOURCE 200809L
 #include "tjaldrum.h"
 
@@ -51,6 +51,7 @@ static char *word(char **line) {
     if (end == NULL) {
         *line = w + strlen(w);
     } else {
+        if (end[1] == 0) stop("a space at the end");
         *end = 0;
         *line = end + 1;
     }
@@ -116,6 +117,7 @@ static void run(char *line) {
         uint64_t version = number(&line);
         in = hex(&line);
         out = lend(number(&line));
+        if ((kind < 3 && in.len != 0) || ((kind == 0 || kind == 5) && version != 0)) stop("a field that the kind does not have");
         answer = encode(kind, version, in, out);
     } else if (strcmp(call, "decode") == 0) {
         in = hex(&line);
