@@ -1,9 +1,10 @@
 /* The functions that the static library of crate host exports, for C; a Rust host declares them alike in an `extern "C"` block.
- * They are proved: what stands here is what their contracts in crates/host/src say. The names of the numbers are document 01's.
+ * What stands here is what their proved contracts in crates/host/src say. The numbers and their names are document 01's.
+ * Link target/staticlib/libhost.a, which `rt staticlib host` writes, into a program for x86-64.
  *
- * A byte slice is two arguments, pointer and length. The pointer is never null, also for a slice of length 0, and the bytes behind it
- * are all readable (a lent buffer: also writable). Lent bytes may not overlap. Nothing is kept after the call, nothing is allocated,
- * there is no global state: any thread may call.
+ * A byte slice is two arguments, pointer and length. What the caller owes, and no proof can give: the pointer is not null, also for a
+ * slice of length 0; as many bytes can be read there (a buffer to write to: also written); a buffer to write to overlaps no other slice.
+ * Nothing is kept after a call, nothing is allocated, and there is no global state, so that any thread may call.
  *
  * Every answer is one number: its upper 32 bits are the number of document 01, 0 for Done; its lower 32 bits are a length, and 0 with
  * every number but 0. */
