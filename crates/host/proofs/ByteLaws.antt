@@ -140,6 +140,11 @@ pub words-zeros : (b : List ℕ) (n : ℕ) → b ≡ replicate n 0 → wordsIn b
 unfolding wordsIn
 words-zeros b n e = rw (e, length-replicate {A = ℕ} n 0) (first-zeros (n / wordBytes) n (omega arith))
 
+pub spread-zeros : (n : ℕ) → spread (replicate n 0) ≡ replicate (wordBytes * n) 0
+unfolding spread be
+spread-zeros zero = refl
+spread-zeros (suc n) = let e : wordBytes * suc n ≡ suc (suc (suc (suc (wordBytes * n)))) = omega arith in rw (e, spread-zeros n)
+
 -- ---- slots put in and taken out
 
 -- as many slots as whole words give

@@ -1,15 +1,16 @@
 -- Laws of an opening with a table of bytes: what recovery's laws say of its words, carried over to its bytes. Assumes nothing.
-use Prim.Native.Nat.{ℕ, _+_, _/_, _%_, _≤_, _<_}
+use Prim.Native.Nat.{ℕ, _+_, _*_, _/_, _%_, _≤_, _<_}
 use mathlib.Core.Path.{_≡_, refl, sym, ap, _∙_}
 use mathlib.Core.Bool.{Bool, true, false}
 use mathlib.Core.Option.{Option, none, some}
 use mathlib.Core.List.{List, []}
 use native.Mathlib.Omega.{arith}
-use lib.Dec.{ltb}
+use lib.Dec.{eqb, ltb}
 use lib.ListN.{length, replicate}
-use borrow.Author.Tests.{eq-eqb, ne-eqb}
+use borrow.Author.Tests.{eq-eqb, ne-eqb, eqb-true}
 use Rattle.keycode.specs.Tests.{pick}
 use Rattle.keycode.specs.Limits.{maxLog}
+use Rattle.keycode.specs.Refusals.{lengthNumber}
 use Rattle.keycode.specs.declared.refusal.Length.{Length}
 use Rattle.keycode.specs.declared.refusal.Length.the-variants.{Refused}
 use Rattle.keycode.specs.declared.refusal.Refusal.the-variants.{BadRequest}
@@ -22,7 +23,7 @@ use Rattle.recovery.specs.declared.request.Changed.{Changed}
 use Rattle.recovery.specs.declared.request.Changed.the-variants.{Refused as NotOpened}
 use Rattle.recovery.specs.Agree.{fit}
 use Rattle.recovery.specs.Recover.{items, ends, roomFor, run}
-use Rattle.recovery.specs.Promises.{openedBy, openAnswer, openTable, Walks, Opens as OpensWords}
+use Rattle.recovery.specs.Promises.{openedBy, openedWords, openAnswer, openTable, Walks, Opens as OpensWords}
 use Rattle.recovery.proofs.ItemLaws.{items-chain, chain-ends}
 use Rattle.recovery.proofs.AgreeLaws.{fit-sound}
 use Rattle.recovery.proofs.WalkLaws.{open-bad, open-sound, open-clear, open-walked}
@@ -30,7 +31,7 @@ use Rattle.host.specs.Answers.{half, lengthOf, packed}
 use Rattle.host.specs.Table.{wordBytes, slotBytes, spread, wordsIn}
 use Rattle.host.specs.Promises.{usedLength, openLength, openBytes, Opens}
 use Rattle.host.proofs.AnswerLaws.{packed-tells}
-use Rattle.host.proofs.ByteLaws.{words-length, words-zeros, spread-words, slot-count}
+use Rattle.host.proofs.ByteLaws.{words-length, words-zeros, spread-words, spread-zeros, slot-count}
 
 -- ---- room for a slot
 
@@ -113,3 +114,24 @@ module _ (log : List ℕ) (used : ℕ) (t : List ℕ) {t₁ : List ℕ} (e : t�
         → a ≡ usedLength c → r ≡ packed a → Opens log used t r t′
     open-done w y k m g p =
         open-bytes log used t (open-walked log used (wordsIn t) (cleared t t e refl) same-words fit-words q w) y (k ∙ l) (ap (λ (n : ℕ). n % wordBytes) (sym l) ∙ m) (p ∙ ap packed g)
+
+-- ---- every refusal clears the table
+
+pub refused-clears : (log : List ℕ) (used : ℕ) (t : List ℕ) {r : ℕ} {t′ : List ℕ} → Opens log used t r t′ → (r / half ≡ 0 → ⊥) → t′ ≡ replicate (length t) 0
+unfolding openLength openBytes openAnswer openTable
+refused-clears log used t o h =
+    o .table ∙ go (eqb (length t % wordBytes) 0) refl (fit (length log) used (length t / wordBytes)) (run log (length t / wordBytes / slotWords) (items log used 0) []) (λ e. h (o .answer .number ∙ e))
+  where
+    zeros : eqb (length t % wordBytes) 0 ≡ true → spread (replicate (length t / wordBytes) 0) ≡ replicate (length t) 0
+    zeros e =
+        let m = eqb-true (length t % wordBytes) 0 e in
+        let n : wordBytes * (length t / wordBytes) ≡ length t = omega arith in
+        spread-zeros (length t / wordBytes) ∙ ap (λ (k : ℕ). replicate k 0) n
+
+    go : (b : Bool) → eqb (length t % wordBytes) 0 ≡ b → (c : Bool) (s : Option (List Slot))
+        → (lengthNumber (pick b (usedLength (pick c (openedBy s (ends 0 (items log used 0))) (NotOpened BadRequest))) (Refused BadRequest)) ≡ 0 → ⊥)
+        → pick b (spread (pick c (openedWords (length t / wordBytes) s) (replicate (length t / wordBytes) 0))) (replicate (length t) 0) ≡ replicate (length t) 0
+    go false e c s k = refl
+    go true e false s k = zeros e
+    go true e true none k = zeros e
+    go true e true (some ss) k = absurd (k refl)
