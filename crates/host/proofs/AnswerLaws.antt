@@ -1,25 +1,24 @@
 -- Laws of answers in one number: every length is below the half, so that both halves can be read; and what the exported functions on keys
 -- answer and leave. Assumes nothing.
-use Prim.Native.Nat.{ℕ, _+_, _*_, _/_, _%_, _≤_, _<_}
+use Prim.Native.Nat.{ℕ, _+_, _*_, _≤_, _<_}
 use mathlib.Core.Path.{_≡_, refl, sym, ap, _∙_}
 use mathlib.Core.Bool.{Bool, true, false}
-use mathlib.Core.List.{List, [], _∷_, _++_, append-assoc}
+use mathlib.Core.List.{List, _∷_, _++_, append-assoc}
 use native.Mathlib.Omega.{arith}
 use lib.Dec.{leb}
-use lib.ListN.{length, drop, set, length-append}
-use borrow.Author.Tests.{le-leb, lt-leb, leb-true}
-use Rattle.keycode.specs.Tests.{pick, ifDone}
+use lib.ListN.{length, set, length-append}
+use borrow.Author.Tests.{le-leb, lt-leb}
+use Rattle.keycode.specs.Tests.{pick}
 use Rattle.keycode.specs.Limits.{maxKey}
 use Rattle.keycode.specs.Number.{be}
 use Rattle.keycode.specs.Buffer.{put}
 use Rattle.keycode.specs.Refusals.{numberOf}
-use Rattle.keycode.specs.Strings.{escapeBody, unescaped, plainLength}
+use Rattle.keycode.specs.Strings.{unescaped, plainLength}
 use Rattle.keycode.specs.Promises.{Writes, fitted, intoRoom}
 use Rattle.keycode.specs.declared.refusal.Length.{Length}
 use Rattle.keycode.specs.declared.refusal.Length.the-variants.{Done, Refused}
 use Rattle.keycode.specs.declared.refusal.Refusal.{Refusal}
 use Rattle.keycode.specs.declared.refusal.Refusal.the-variants.{BadRequest}
-use Rattle.keycode.proofs.Basics.{nope}
 use Rattle.keycode.proofs.BufferLaws.{refused-stays, put-front, put-put}
 use Rattle.keycode.proofs.NumberLaws.{length-be}
 use Rattle.keycode.proofs.StringLaws.{body-bound, plain-done}
@@ -30,7 +29,7 @@ use Rattle.keys.specs.declared.keys.Decoded.{Decoded}
 use Rattle.keys.specs.declared.keys.Decoded.the-variants.{Whole, Refused as NotWhole}
 use Rattle.keys.proofs.EncodeLaws.{measure-says, two-put, version-length, write-length, unversioned-length}
 use Rattle.host.specs.Answers.{half, lengthOf, packed, Tells}
-use Rattle.host.specs.Promises.{Gives, Encodes, Unescapes, Decodes, fieldCount, split, laidOut, splitBytes, decodedLength, decodedBytes}
+use Rattle.host.specs.Promises.{Gives, Encodes, Unescapes, Decodes, fieldCount, split, laidOut, splitBytes}
 use Rattle.host.specs.declared.coding.Split.{Split}
 
 -- ---- the halves

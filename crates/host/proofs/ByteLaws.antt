@@ -4,11 +4,11 @@ use mathlib.Core.Path.{_≡_, refl, sym, ap, _∙_}
 use mathlib.Core.List.{List, [], _∷_, _++_, append-nil, append-assoc}
 use native.Mathlib.Nat.{zero-add, suc-add}
 use native.Mathlib.Omega.{arith}
-use lib.ListN.{length, take, drop, getD, replicate, length-append, length-take, length-drop, take-append-drop, length-replicate}
+use lib.ListN.{length, take, drop, replicate, length-append, length-drop, take-append-drop, length-replicate}
 use lib.Seq.{slice, take-all, take-append-le, drop-append-le, take-at, drop-at, length-take-le, length-slice, drop-drop}
 use Rattle.keycode.specs.Number.{be, num, numFrom}
 use Rattle.keycode.specs.Buffer.{put}
-use Rattle.keycode.proofs.BufferLaws.{length-put, put-put}
+use Rattle.keycode.proofs.BufferLaws.{put-put}
 use Rattle.keycode.proofs.NumberLaws.{Bytes, bytes-take, bytes-drop, length-be, num-any, be-num}
 use Rattle.entry.specs.Reading.{wordAt}
 use Rattle.keydir.specs.Words.{copied}

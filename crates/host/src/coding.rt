@@ -14,11 +14,10 @@ use keys::encode_txn_write;
 use keys::encode_unversioned;
 use keys::encode_version;
 ghost use mathlib.Core.Path.{_≡_};
-ghost use mathlib.Core.List.{[]};
 ghost use Prim.Native.Nat.{_≤_};
 ghost use lib.ListN.{length};
 ghost use Rattle.keycode.specs.Buffer.{put};
-ghost use Rattle.keys.specs.Keys.{encode, nextVersion, txnActive, txnActiveSnapshot, txnWrite, version as versionKey, unversioned};
+ghost use Rattle.keys.specs.Keys.{nextVersion, txnActive, txnActiveSnapshot, txnWrite, version as versionKey, unversioned};
 ghost use Rattle.host.specs.Promises.{Encodes, Decodes, Unescapes, fieldCount, laidOut, split};
 
 #[no_mangle]
