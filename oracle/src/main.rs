@@ -1,0 +1,55 @@
+//! Runs toydb's own files beside ours. Every part prints what it compared and every difference, and the exit status is 1 on any.
+//!
+//!   oracle tape [LOG]           a tape on standard input, toydb's answers on standard output; its log's bytes into the file LOG
+//!   oracle tapes BENCH N        N tapes of every kind, on toydb and on the program BENCH
+
+mod compare_tapes;
+mod held;
+mod ours;
+mod random;
+mod report;
+mod store;
+mod tape;
+mod tapes;
+
+use std::io::{Read as _, Write as _};
+use std::path::PathBuf;
+
+/// A log file of this process, in memory where the machine has such a place.
+fn scratch() -> PathBuf {
+    let shared = PathBuf::from("/dev/shm");
+    let dir = if shared.is_dir() { shared } else { std::env::temp_dir() };
+    dir.join(format!("oracle-{}.log", std::process::id()))
+}
+
+fn run_tape(log: Option<&String>) -> bool {
+    let mut input = Vec::new();
+    std::io::stdin().read_to_end(&mut input).expect("the tape");
+    let ran = tape::run(&input, &scratch());
+    std::io::stdout().write_all(&ran.answers).expect("the answers");
+    if let Some(log) = log {
+        std::fs::write(log, ran.log).expect("the log");
+    }
+    true
+}
+
+fn main() {
+    // A scan with crossed bounds panics in toydb and is caught: no word of it.
+    std::panic::set_hook(Box::new(|info| {
+        if !info.to_string().contains("BTree") {
+            eprintln!("{info}");
+        }
+    }));
+    let args: Vec<String> = std::env::args().skip(1).collect();
+    let number = |i: usize| args.get(i).and_then(|n| n.parse().ok());
+    let fine = match args.first().map(String::as_str) {
+        Some("tape") => run_tape(args.get(1)),
+        Some("tapes") if args.len() == 3 => compare_tapes::compare(&args[1], number(2).expect("a number")),
+        _ => {
+            eprintln!("oracle: see the head of src/main.rs for its calls");
+            std::process::exit(2);
+        }
+    };
+    let _ = std::fs::remove_file(scratch());
+    std::process::exit(if fine { 0 } else { 1 });
+}
