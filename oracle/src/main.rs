@@ -1,6 +1,7 @@
 //! Runs toydb's own files beside ours. Every part prints what it compared and every difference, and the exit status is 1 on any.
 //!
 //!   oracle tape [LOG]           a tape on standard input, toydb's answers on standard output; its log's bytes into the file LOG
+//!   oracle script              a script on standard input, its lines with toydb's answers on standard output
 //!   oracle tapes BENCH N        N tapes of every kind, on toydb and on the program BENCH
 
 mod compare_tapes;
@@ -8,6 +9,9 @@ mod held;
 mod ours;
 mod random;
 mod report;
+mod script;
+mod spell;
+mod steps;
 mod store;
 mod tape;
 mod tapes;
@@ -33,6 +37,12 @@ fn run_tape(log: Option<&String>) -> bool {
     true
 }
 
+fn run_script() -> bool {
+    let text = std::io::read_to_string(std::io::stdin()).expect("the script");
+    print!("{}", script::Script::new(&scratch()).run(&text));
+    true
+}
+
 fn main() {
     // A scan with crossed bounds panics in toydb and is caught: no word of it.
     std::panic::set_hook(Box::new(|info| {
@@ -44,6 +54,7 @@ fn main() {
     let number = |i: usize| args.get(i).and_then(|n| n.parse().ok());
     let fine = match args.first().map(String::as_str) {
         Some("tape") => run_tape(args.get(1)),
+        Some("script") => run_script(),
         Some("tapes") if args.len() == 3 => compare_tapes::compare(&args[1], number(2).expect("a number")),
         _ => {
             eprintln!("oracle: see the head of src/main.rs for its calls");

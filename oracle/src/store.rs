@@ -2,7 +2,6 @@
 //! of docs/DIFFERENCES.md says otherwise. Each such rule stands in a function of its own or under a `rule` call, by which it is counted.
 
 use std::collections::BTreeMap;
-use std::ops::Bound;
 use std::path::Path;
 
 use toydb::encoding::Key as _;
@@ -56,7 +55,7 @@ fn number_of(error: Error, input: u8) -> u8 {
 }
 
 /// toydb's errors in calls that give no InvalidInput.
-fn plain(error: Error) -> u8 {
+pub fn plain(error: Error) -> u8 {
     match error {
         Error::InvalidInput(_) => panic!("unexpected: {error}"),
         error => number_of(error, 0),
@@ -85,12 +84,12 @@ impl Store {
         f(&mut self.mvcc.engine.lock().expect("nobody panicked with the lock"))
     }
 
-    fn rule(&mut self, name: &'static str) {
+    pub fn rule(&mut self, name: &'static str) {
         *self.rules.entry(name).or_default() += 1;
     }
 
     /// A refusal that a rule gives.
-    fn ruled<T>(&mut self, name: &'static str, number: u8) -> Answer<T> {
+    pub fn ruled<T>(&mut self, name: &'static str, number: u8) -> Answer<T> {
         self.rule(name);
         Err(number)
     }
@@ -168,7 +167,7 @@ impl Store {
     }
 
     /// toydb's own resume tells whether a read-write handle is open; the versions 0 and 2^64-1 belong to none.
-    fn take(&mut self, state: &TransactionState) -> Answer<Transaction<Held>> {
+    pub fn take(&mut self, state: &TransactionState) -> Answer<Transaction<Held>> {
         let transaction = self.mvcc.resume(state.clone()).map_err(|e| number_of(e, NOT_OPEN))?;
         if !state.read_only && (state.version == 0 || state.version == u64::MAX) {
             return self.ruled("version of no writer", NOT_OPEN);
@@ -180,7 +179,7 @@ impl Store {
         Ok(self.take(state)?.state().clone())
     }
 
-    fn judge_key(&mut self, key: &[u8]) -> Answer<()> {
+    pub fn judge_key(&mut self, key: &[u8]) -> Answer<()> {
         if key.len() > MAX_KEY { self.ruled("limit: key", KEY_TOO_LONG) } else { Ok(()) }
     }
 
@@ -282,98 +281,5 @@ impl Store {
             }
         }
         (pairs, Ok(()))
-    }
-}
-
-/// What a scan step is asked: bounds or a prefix.
-#[derive(Clone, Debug)]
-pub enum Asked {
-    Range(Bound<Vec<u8>>, Bound<Vec<u8>>),
-    Prefix(Vec<u8>),
-}
-
-impl Asked {
-    fn keys(&self) -> Vec<&[u8]> {
-        match self {
-            Asked::Prefix(prefix) => vec![prefix],
-            Asked::Range(low, high) => [low, high]
-                .into_iter()
-                .filter_map(|b| match b {
-                    Bound::Included(k) | Bound::Excluded(k) => Some(k.as_slice()),
-                    Bound::Unbounded => None,
-                })
-                .collect(),
-        }
-    }
-
-    fn first(&self, transaction: &Transaction<Held>) -> Answer<Option<Pair>> {
-        let next = match self {
-            Asked::Prefix(prefix) => transaction.scan_prefix(prefix).next(),
-            Asked::Range(low, high) => transaction.scan((low.clone(), high.clone())).next(),
-        };
-        next.transpose().map_err(plain)
-    }
-}
-
-impl Store {
-    /// One scan step: a new scan of toydb's, to which the records up to the last given key are hidden.
-    pub fn step(&mut self, state: &TransactionState, asked: &Asked, last: Option<&[u8]>) -> Answer<Pair> {
-        let transaction = self.take(state)?;
-        for key in asked.keys().into_iter().chain(last) {
-            self.judge_key(key)?;
-        }
-        self.engine(|e| {
-            e.crossed = false;
-            e.floor = last.map(|k| Key::Version(k.into(), u64::MAX).encode());
-        });
-        let mut first = asked.first(&transaction);
-        if first == Err(BAD_STORE) || self.holds_long_key() {
-            first = self.step_by_records(&transaction, asked);
-        }
-        let crossed = self.engine(|e| {
-            e.floor = None;
-            e.crossed
-        });
-        if crossed {
-            self.rule("crossed bounds");
-        }
-        first?.ok_or(ABSENT)
-    }
-
-    fn versions(&self) -> Vec<(Vec<u8>, Vec<u8>)> {
-        let keys = self.engine(|e| {
-            e.file.scan(vec![4]..vec![5]).map(|pair| pair.expect("a pair").0).collect::<Vec<_>>()
-        });
-        let user = |key: &Vec<u8>| match Key::decode(key) {
-            Ok(Key::Version(user, _)) => Some((key.clone(), user.into_owned())),
-            _ => None,
-        };
-        keys.iter().filter_map(user).collect()
-    }
-
-    fn holds_long_key(&self) -> bool {
-        self.versions().iter().any(|(_, user)| user.len() > MAX_KEY)
-    }
-
-    /// toydb reads 32 pairs ahead and meets damage that a step does not read. So it is lent the records up to the last version of one key
-    /// after the other, until it answers. A user key over the limit is damage here, and none to toydb.
-    fn step_by_records(&mut self, transaction: &Transaction<Held>, asked: &Asked) -> Answer<Option<Pair>> {
-        self.rule("damaged scan by records");
-        let versions = self.versions();
-        for (i, (key, user)) in versions.iter().enumerate() {
-            if versions.get(i + 1).is_some_and(|(_, next)| next == user) || !self.engine(|e| e.read(key)) {
-                continue;
-            }
-            self.engine(|e| e.ceiling = Some(key.clone()));
-            let first = asked.first(transaction);
-            self.engine(|e| e.ceiling = None);
-            if user.len() > MAX_KEY {
-                return self.ruled("stored key over the limit", BAD_STORE);
-            }
-            if first != Ok(None) {
-                return first;
-            }
-        }
-        asked.first(transaction)
     }
 }
