@@ -36,10 +36,6 @@ impl Held {
         std::fs::read(&self.path).expect("the log can be read")
     }
 
-    pub fn path(&self) -> &Path {
-        &self.path
-    }
-
     pub fn used(&mut self) -> u64 {
         self.file.status().expect("a status").disk_size
     }

@@ -3,9 +3,18 @@
 //!   oracle tape [LOG]           a tape on standard input, toydb's answers on standard output; its log's bytes into the file LOG
 //!   oracle script              a script on standard input, its lines with toydb's answers on standard output
 //!   oracle tapes BENCH N        N tapes of every kind, on toydb and on the program BENCH
+//!   oracle calls PROGRAM N      N scripts of every kind, on toydb and on the program PROGRAM
+//!   oracle host DRIVER N        keys and logs, all small ones and N seeds, on toydb and through the program DRIVER (host/driver.c)
 
+mod calls;
+mod compare_calls;
+mod compare_host;
 mod compare_tapes;
+mod damage;
 mod held;
+mod keys;
+mod lines;
+mod logs;
 mod ours;
 mod random;
 mod report;
@@ -56,6 +65,8 @@ fn main() {
         Some("tape") => run_tape(args.get(1)),
         Some("script") => run_script(),
         Some("tapes") if args.len() == 3 => compare_tapes::compare(&args[1], number(2).expect("a number")),
+        Some("calls") if args.len() == 3 => compare_calls::compare(&args[1], number(2).expect("a number")),
+        Some("host") if args.len() == 3 => compare_host::compare(&args[1], number(2).expect("a number")),
         _ => {
             eprintln!("oracle: see the head of src/main.rs for its calls");
             std::process::exit(2);

@@ -60,10 +60,24 @@ pub struct Setting {
     low: Bound<Vec<u8>>,
     high: Bound<Vec<u8>>,
     last: Option<Vec<u8>>,
-    number: u8,
+    pub number: u8,
+    pub keys: u64,
+    /// The user key of the last scan step.
+    pub pair: Option<Vec<u8>>,
 }
 
 impl Setting {
+    pub fn used(&self) -> u64 {
+        self.bytes.len() as u64
+    }
+
+    /// The words that put the handle in hand there again.
+    pub fn hand_words(&self) -> String {
+        let name = if self.hand.read_only { "reader" } else { "writer" };
+        let set: Vec<String> = self.hand.set.iter().map(|v| format!(", with {v}")).collect();
+        format!("{name} {}{}", self.hand.version, set.concat())
+    }
+
     pub fn empty() -> Setting {
         Setting {
             bytes: Vec::new(),
@@ -74,6 +88,8 @@ impl Setting {
             high: Bound::Unbounded,
             last: None,
             number: 0,
+            keys: 0,
+            pair: None,
         }
     }
 }
@@ -202,8 +218,11 @@ impl Line {
 
     fn step(&mut self, state: &TransactionState, asked: Asked) -> Answer<(String, Option<Hand>)> {
         let last = self.setting.last.clone();
+        self.setting.pair = None;
         let (key, value) = self.store.step(state, &asked, last.as_deref())?;
-        Ok((format!(", key {}, value {}", shown(&escaped(&key)), shown(&value)), None))
+        let text = format!(", key {}, value {}", shown(&escaped(&key)), shown(&value));
+        self.setting.pair = Some(key);
+        Ok((text, None))
     }
 
     fn call_held(&mut self, name: &str, first: &str, second: &str) -> Answer<(String, Option<Hand>)> {
@@ -268,6 +287,7 @@ impl Line {
 
     fn close(mut self) -> Setting {
         self.setting.bytes = self.store.engine(|e| e.bytes());
+        self.setting.keys = self.store.keys();
         self.setting
     }
 }
@@ -289,6 +309,12 @@ impl Script {
         }
         let text = std::mem::take(&mut line.text) + &answer;
         (text, line.close())
+    }
+
+    /// The key that a scan step gives.
+    pub fn given_pair(&mut self, from: &Setting, items: &str) -> Option<Vec<u8>> {
+        let (_, after) = self.run_items(from, items);
+        after.pair
     }
 
     /// A line of a script, as our program writes it.
