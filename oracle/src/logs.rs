@@ -3,7 +3,6 @@
 
 use std::path::Path;
 
-use toydb::storage::Engine as _;
 use toydb::storage::bitcask::{BitCask, peek};
 
 use crate::lines::{Request, answered};

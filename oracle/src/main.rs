@@ -5,6 +5,7 @@
 //!   oracle tapes BENCH N        N tapes of every kind, on toydb and on the program BENCH
 //!   oracle calls PROGRAM N      N scripts of every kind, on toydb and on the program PROGRAM
 //!   oracle host DRIVER N        keys and logs, all small ones and N seeds, on toydb and through the program DRIVER (host/driver.c)
+//!   oracle listed PROGRAM DRIVER  the cases of docs/DIFFERENCES.md, on toydb by itself and on ours
 
 mod calls;
 mod compare_calls;
@@ -14,6 +15,7 @@ mod damage;
 mod held;
 mod keys;
 mod lines;
+mod listed;
 mod logs;
 mod ours;
 mod random;
@@ -67,6 +69,7 @@ fn main() {
         Some("tapes") if args.len() == 3 => compare_tapes::compare(&args[1], number(2).expect("a number")),
         Some("calls") if args.len() == 3 => compare_calls::compare(&args[1], number(2).expect("a number")),
         Some("host") if args.len() == 3 => compare_host::compare(&args[1], number(2).expect("a number")),
+        Some("listed") if args.len() == 3 => listed::compare(&args[1], &args[2]),
         _ => {
             eprintln!("oracle: see the head of src/main.rs for its calls");
             std::process::exit(2);
