@@ -1,26 +1,31 @@
-//! Scripts of many kinds, each decided by its kind and seed: a history that toydb accepts, then cases from it. A case that appends is tried
-//! again with the room and the slots that it takes, and with one less.
+//! Scripts of many kinds, each decided by its kind and seed: a history of calls with several handles, and cases from the store between them.
+//! A case that appends is tried again with the room and the slots that it takes, and with one less.
 
 use std::path::Path;
 
 use crate::damage::damage;
 use crate::random::Random;
-use crate::script::{Script, Setting};
+use crate::script::{After, Script, Setting};
 use crate::spell::word;
 
-pub const KINDS: [&str; 10] = [
+pub const KINDS: [&str; 13] = [
     "good", "conflicts", "odd keys", "long values", "many open", "forged handles", "snapshots", "damaged", "damaged scans", "walks",
+    "tight", "cuts", "contents",
 ];
 
+/// Hands that a history takes its handles from; another is for cases that forge one.
+const HISTORY: usize = 15;
+
 /// A script under way.
-pub struct Maker<'a> {
-    pub random: Random,
+struct Maker<'a> {
+    random: Random,
     kind: &'a str,
     script: Script,
-    history: Vec<String>,
     now: Setting,
-    /// The words of the handles begun so far.
-    handles: Vec<String>,
+    keys: Vec<Vec<u8>>,
+    /// The hands that hold a handle; those that hold a read-write one.
+    filled: Vec<usize>,
+    writers: Vec<usize>,
     lines: Vec<String>,
 }
 
@@ -34,18 +39,24 @@ fn key(random: &mut Random, kind: &str) -> Vec<u8> {
         return vec![*random.pick(b"k\x00\xff"); len];
     }
     match kind {
-        "odd keys" | "walks" => random.pick(&odd).to_vec(),
-        _ => random.pick(&few).to_vec(),
+        "odd keys" | "walks" => odd[random.below(12)].to_vec(),
+        _ => few[random.below(4)].to_vec(),
     }
 }
 
 fn value(random: &mut Random, kind: &str) -> Vec<u8> {
     let sizes: &[usize] = match kind {
         "long values" => &[0, 1, 16, 17, 200, 1000, 3000, 4095, 4096, 4097],
+        "tight" => &[0, 10, 30, 60],
         _ => &[0, 1, 1, 2, 3, 16],
     };
     let len = *random.pick(sizes);
-    if len > 16 { vec![b'v'; len] } else { random.bytes(len) }
+    // Long values have a period that is no power of two, so that a shift shows.
+    let some: Vec<u8> = match random.percent(30) {
+        true => random.bytes(len.min(7)),
+        false => (0..len.min(7)).map(|_| b'p' + random.below(11) as u8).collect(),
+    };
+    some.iter().copied().cycle().take(len).collect()
 }
 
 impl Maker<'_> {
@@ -57,24 +68,34 @@ impl Maker<'_> {
         word(&value(&mut self.random, self.kind))
     }
 
-    /// A handle of the history, or one that no store gave.
+    /// A hand of the history, mostly one that can write.
+    fn hand(&mut self) -> String {
+        let hand = if self.random.percent(2) {
+            self.random.below(HISTORY)
+        } else if !self.writers.is_empty() && self.random.percent(70) {
+            *self.random.pick(&self.writers)
+        } else if !self.filled.is_empty() {
+            *self.random.pick(&self.filled)
+        } else {
+            0
+        };
+        format!("hand {hand}")
+    }
+
+    /// A hand of the history, or a handle that no store gave.
     fn handle(&mut self) -> String {
         let forge = match self.kind {
             "forged handles" => 70,
             "damaged" | "damaged scans" => 20,
             _ => 3,
         };
-        if self.handles.is_empty() || self.random.percent(forge) {
-            return self.forged();
-        }
-        let i = self.random.below(self.handles.len());
-        self.handles[i].clone()
+        if self.random.percent(forge) { self.forged() } else { self.hand() }
     }
 
     fn forged(&mut self) -> String {
         let name = *self.random.pick(&["writer", "reader"]);
         let version = *self.random.pick(&[0, 1, 2, 2, 3, 3, 4, 5, 9, u64::MAX - 1, u64::MAX]);
-        let mut text = format!("{name} {version}");
+        let mut text = format!("hand {HISTORY}, {name} {version}");
         for v in [0, 1, 2, 3, 4, 5, 6, u64::MAX] {
             if self.random.percent(15) {
                 text.push_str(&format!(", with {v}"));
@@ -104,7 +125,6 @@ impl Maker<'_> {
         format!("{handle}, {after}scan-prefix {}", self.key())
     }
 
-    /// A call with a handle from the history.
     fn held_call(&mut self) -> String {
         let handle = self.handle();
         let weights = if self.kind == "conflicts" { [10, 50, 20, 8, 6, 1] } else { [25, 30, 12, 10, 8, 4] };
@@ -121,16 +141,19 @@ impl Maker<'_> {
 
     fn free_call(&mut self) -> String {
         let weights = match self.kind {
-            "snapshots" => [40, 5, 80, 2, 2, 5],
-            _ => [40, 12, 15, 8, 8, 6],
+            "snapshots" => [40, 5, 80, 2, 2, 5, 1],
+            "tight" => [40, 2, 2, 4, 8, 4, 40],
+            _ => [40, 12, 15, 8, 8, 6, 4],
         };
+        let hand = self.random.below(HISTORY);
         match self.random.weighted(&weights) {
-            0 => "begin".to_string(),
-            1 => "read-only".to_string(),
-            2 => format!("as-of {}", *self.random.pick(&[0, 1, 2, 3, 4, 5, 9, u64::MAX])),
+            0 => format!("hand {hand}, begin"),
+            1 => format!("hand {hand}, read-only"),
+            2 => format!("hand {hand}, as-of {}", *self.random.pick(&[0, 1, 2, 3, 4, 5, 9, u64::MAX])),
             3 => format!("get-unversioned {}", self.key()),
             4 => format!("set-unversioned {} {}", self.key(), self.value()),
-            _ => "status".to_string(),
+            5 => self.random.pick(&["status", "engine-status", "open"]).to_string(),
+            _ => "compact".to_string(),
         }
     }
 
@@ -146,72 +169,80 @@ impl Maker<'_> {
         }
     }
 
-    /// One more handle from a begin, or a handle that its end has taken off the list.
-    fn note_handle(&mut self, items: &str, after: &Setting) {
-        if ["begin", "read-only", "as-of"].iter().any(|call| items.starts_with(call)) {
-            self.handles.push(after.hand_words());
-        }
-        if (items.ends_with("commit") || items.ends_with("rollback")) && self.random.percent(85) {
-            self.handles.retain(|h| !items.starts_with(h.as_str()));
-        }
-    }
-
-    /// Adds items to the history, if toydb does them and they fit into one store.
-    fn extend(&mut self, items: &str) {
-        let (text, after) = self.script.run_items(&self.now, items);
-        if after.number != 0 || text.contains("REFUSED") {
+    /// Which hands hold a handle after a call of the history.
+    fn note(&mut self, items: &str, after: &After) {
+        let hand = after.setting.hand;
+        let is = |calls: &[&str]| calls.iter().any(|call| items.contains(call));
+        if after.number != 0 || !is(&["begin", "read-only", "as-of", "commit", "rollback"]) {
             return;
         }
-        self.note_handle(items, &after);
-        // A look leaves nothing behind but its words.
-        if after.used() != self.now.used() {
-            self.history.push(items.to_string());
+        // Now and then a handle stays in use after its end.
+        if is(&["commit", "rollback"]) && self.random.percent(10) {
+            return;
         }
-        self.now = after;
+        self.filled.retain(|h| *h != hand);
+        self.writers.retain(|h| *h != hand);
+        if is(&["begin", "read-only", "as-of"]) {
+            self.filled.push(hand);
+        }
+        if is(&["begin"]) {
+            self.writers.push(hand);
+        }
     }
 
-    fn given(&mut self) {
-        if !self.history.is_empty() {
-            self.lines.push(format!("Given: {}", self.history.join(", ")));
-        }
-    }
-
-    /// A few calls more in the history, and what the kind lays by hand.
-    fn grow(&mut self) {
-        let calls = 2 + self.random.below(10);
-        for _ in 0..calls {
-            let items = self.call();
-            self.extend(&items);
-        }
-        if self.kind == "many open" {
-            for _ in 0..self.random.below(9) {
-                self.extend("begin");
-            }
-        }
-        if ["many open", "snapshots", "damaged", "damaged scans"].contains(&self.kind) {
-            for _ in 0..1 + self.random.below(3) {
-                let items = damage(&mut self.random, self.kind);
-                self.extend(&items);
-            }
-        }
+    /// A line of the history.
+    fn history(&mut self, items: &str) {
+        let after = self.script.run_items(&self.now, items);
+        self.note(items, &after);
+        self.lines.push(format!("> {items}"));
+        self.now = after.setting;
+        self.keys = after.keys;
     }
 
     /// A case, and where it appends its boundaries.
     fn case(&mut self, items: &str) {
         self.lines.push(items.to_string());
-        let (_, after) = self.script.run_items(&self.now, items);
-        let (before, call) = items.rsplit_once(", ").map_or(("", items), |(b, c)| (b, c));
-        let lead = if before.is_empty() { String::new() } else { format!("{before}, ") };
-        let grown = after.used() - self.now.used();
-        if after.number == 0 && grown > 0 && self.random.percent(40) {
-            self.lines.push(format!("{lead}room {}, {call}", grown - 1));
-            self.lines.push(format!("{lead}room {grown}, {call}"));
-            let slots = after.keys.saturating_sub(self.now.keys);
-            if slots > 0 {
-                self.lines.push(format!("{lead}slots {}, {call}", slots - 1));
-                self.lines.push(format!("{lead}slots {slots}, {call}"));
-                self.lines.push(format!("{lead}room {}, slots {}, {call}", grown - 1, slots - 1));
+        let after = self.script.run_items(&self.now, items);
+        let (lead, call) = items.rsplit_once(", ").map_or((String::new(), items), |(b, c)| (format!("{b}, "), c));
+        let grown = after.setting.used().saturating_sub(self.now.used());
+        if after.number != 0 || grown == 0 || self.random.percent(60) {
+            return;
+        }
+        self.lines.push(format!("{lead}room {}, {call}", grown - 1));
+        self.lines.push(format!("{lead}room {grown}, {call}"));
+        let slots = after.keys.len().saturating_sub(self.keys.len());
+        if slots > 0 {
+            self.lines.push(format!("{lead}slots {}, {call}", slots - 1));
+            self.lines.push(format!("{lead}slots {slots}, {call}"));
+            self.lines.push(format!("{lead}room {}, slots {}, {call}", grown - 1, slots - 1));
+        }
+    }
+
+    /// A few calls more in the history, and what the kind does to the store by hand.
+    fn grow(&mut self) {
+        let calls = 4 + self.random.below(12);
+        for _ in 0..calls {
+            let items = match (self.writers.len(), self.random.below(4)) {
+                (0, _) | (1, 0) => format!("hand {}, begin", self.random.below(HISTORY)),
+                _ => self.call(),
+            };
+            self.history(&items);
+        }
+        if self.kind == "many open" {
+            for _ in 0..self.random.below(9) {
+                let hand = self.random.below(HISTORY);
+                self.history(&format!("hand {hand}, begin"));
             }
+        }
+        if ["many open", "snapshots", "damaged", "damaged scans"].contains(&self.kind) {
+            for _ in 0..1 + self.random.below(3) {
+                let items = damage(&mut self.random, self.kind);
+                self.history(&items);
+            }
+        }
+        if self.kind == "cuts" {
+            let at = self.random.below(self.now.bytes.len() + 1);
+            self.history(&format!("used {at}, open"));
         }
     }
 
@@ -220,14 +251,48 @@ impl Maker<'_> {
         let handle = self.handle();
         let bounds = self.bounds();
         let prefix = self.key();
-        let whole = self.random.percent(50);
+        let by_prefix = self.random.percent(50);
         let mut after = String::new();
         for _ in 0..40 {
-            let line = if whole { format!("{handle}, {after}scan-prefix {prefix}") } else { format!("{handle}, {bounds}{after}scan") };
+            let scan = if by_prefix { format!("{after}scan-prefix {prefix}") } else { format!("{bounds}{after}scan") };
+            let line = format!("{handle}, {scan}");
             self.lines.push(line.clone());
-            match self.script.given_pair(&self.now, &line) {
+            match self.script.run_items(&self.now, &line).pair {
                 Some(last) => after = format!("after {}, ", word(&last)),
                 None => return,
+            }
+        }
+    }
+
+    /// Every live record, and what is left of the log where it is cut or goes on with anything.
+    fn contents(&mut self) {
+        for key in self.keys.clone() {
+            self.lines.push(format!("engine-get {}", word(&key)));
+        }
+        for _ in 0..8 {
+            let at = self.random.below(self.now.bytes.len() + 1);
+            let call = if self.keys.is_empty() || self.random.percent(50) {
+                "engine-status".to_string()
+            } else {
+                format!("engine-get {}", word(&self.random.pick(&self.keys).clone()))
+            };
+            self.lines.push(format!("used {at}, open, {call}"));
+            self.lines.push(format!("used {at}, open, compact, {call}"));
+            let len = self.random.below(24);
+            let junk: Vec<u8> = (0..len).map(|_| *self.random.pick(&[0, 0, 0, 0, 1, 2, 4, 0xff])).collect();
+            self.lines.push(format!("raw {}, open, {call}", word(&junk)));
+        }
+    }
+
+    fn cases(&mut self) {
+        match self.kind {
+            "walks" => (0..3).for_each(|_| self.walk()),
+            "contents" => self.contents(),
+            _ => {
+                for _ in 0..10 {
+                    let items = if self.kind == "damaged scans" { self.step() } else { self.call() };
+                    self.case(&items);
+                }
             }
         }
     }
@@ -235,32 +300,23 @@ impl Maker<'_> {
 
 /// The lines of a script.
 pub fn script(kind: &str, seed: u64, path: &Path) -> Vec<String> {
+    let nth = KINDS.iter().position(|k| *k == kind).expect("a kind") as u64;
     let mut maker = Maker {
-        random: Random::new(seed),
+        random: Random::new(seed * 64 + nth),
         kind,
         script: Script::new(path),
-        history: Vec::new(),
         now: Setting::empty(),
-        handles: Vec::new(),
+        keys: Vec::new(),
+        filled: Vec::new(),
+        writers: Vec::new(),
         lines: vec![format!("Seed {seed} of {kind}")],
     };
+    if kind == "tight" {
+        maker.history("room 700, target 700, slots 12");
+    }
     for _ in 0..3 {
         maker.grow();
-        maker.given();
-        let cases = if kind == "walks" { 3 } else { 14 };
-        for _ in 0..cases {
-            match kind {
-                "walks" => maker.walk(),
-                "damaged scans" => {
-                    let items = maker.step();
-                    maker.case(&items);
-                }
-                _ => {
-                    let items = maker.call();
-                    maker.case(&items);
-                }
-            }
-        }
+        maker.cases();
     }
     maker.lines
 }

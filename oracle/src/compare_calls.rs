@@ -21,17 +21,16 @@ fn compare_chunk(program: &str, scripts: &[Vec<String>], report: &mut Report) {
         report.count("cases", *n as usize);
     }
     report.count("scripts", scripts.len());
-    let (mut seed, mut given) = ("", "");
+    let mut seed = "";
     let mut lines = ours.lines();
     for line in expected.lines() {
         match line {
-            line if line.starts_with("Seed") => (seed, given) = (line, ""),
-            line if line.starts_with("Given") => given = line,
+            line if line.starts_with("Seed") => seed = line,
             _ => {}
         }
         let our_line = lines.next().unwrap_or("nothing");
         if our_line != line {
-            report.differs(&format!("calls, {seed}\n  {given}\n  ours  {our_line}\n  toydb {line}"));
+            report.differs(&format!("calls, {seed}\n  ours  {our_line}\n  toydb {line}"));
         }
     }
 }

@@ -20,16 +20,22 @@ pub fn entry(key: &[u8], value: Result<&[u8], i32>) -> Vec<u8> {
     [&key_len, &len.to_be_bytes(), key, value.unwrap_or_default()].concat()
 }
 
-/// The most keys that are live after any of a recovered log's entries: toydb opens each prefix that ends with an entry.
-fn peak(log: &[u8], path: &Path) -> usize {
-    let mut most = 0;
+/// The offsets at which the entries of a recovered log end.
+fn ends(log: &[u8]) -> Vec<usize> {
+    let mut ends = Vec::new();
     let mut at = 0;
     while at < log.len() {
         let word = |i: usize| u32::from_be_bytes(log[i..i + 4].try_into().expect("four bytes"));
         at += 8 + word(at) as usize + (word(at + 4) as i32).max(0) as usize;
-        most = most.max(recover(&log[..at], path).0.len());
+        ends.push(at);
     }
-    most
+    ends
+}
+
+/// Whether more keys than slots are live after any of a recovered log's entries: toydb opens each part that ends with an entry.
+pub fn needs_more_slots(log: &[u8], slots: u64, path: &Path) -> bool {
+    let ends = ends(log);
+    ends.len() as u64 > slots && ends.iter().any(|end| recover(&log[..*end], path).0.len() as u64 > slots)
 }
 
 /// toydb's places, and the bytes that it leaves in the file.
@@ -46,7 +52,7 @@ pub fn open(log: &[u8], used: usize, table: usize, path: &Path) -> Request {
         return answered(&line, BAD_REQUEST, 0, &vec![0; table]);
     }
     let (places, left) = recover(&log[..used], path);
-    if places.len() * SLOT > table || peak(&left, path) * SLOT > table {
+    if needs_more_slots(&left, (table / SLOT) as u64, path) {
         return answered(&line, TABLE_FULL, 0, &vec![0; table]);
     }
     let mut bytes = Vec::new();

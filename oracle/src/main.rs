@@ -2,6 +2,8 @@
 //!
 //!   oracle tape [LOG]           a tape on standard input, toydb's answers on standard output; its log's bytes into the file LOG
 //!   oracle script              a script on standard input, its lines with toydb's answers on standard output
+//!   oracle record lines         a sample of scripts
+//!   oracle record answers       the same with toydb's answers
 //!   oracle tapes BENCH N        N tapes of every kind, on toydb and on the program BENCH
 //!   oracle calls PROGRAM N      N scripts of every kind, on toydb and on the program PROGRAM
 //!   oracle host DRIVER N        keys and logs, all small ones and N seeds, on toydb and through the program DRIVER (host/driver.c)
@@ -14,11 +16,13 @@ mod compare_tapes;
 mod damage;
 mod held;
 mod keys;
+mod line;
 mod lines;
 mod listed;
 mod logs;
 mod ours;
 mod random;
+mod record;
 mod report;
 mod script;
 mod spell;
@@ -66,6 +70,7 @@ fn main() {
     let fine = match args.first().map(String::as_str) {
         Some("tape") => run_tape(args.get(1)),
         Some("script") => run_script(),
+        Some("record") if args.len() == 2 => record::record(args[1] == "answers"),
         Some("tapes") if args.len() == 3 => compare_tapes::compare(&args[1], number(2).expect("a number")),
         Some("calls") if args.len() == 3 => compare_calls::compare(&args[1], number(2).expect("a number")),
         Some("host") if args.len() == 3 => compare_host::compare(&args[1], number(2).expect("a number")),

@@ -81,11 +81,8 @@ pub fn word(bytes: &[u8]) -> String {
     Spelling::default().bytes(bytes).word()
 }
 
-/// A string as an answer shows it: long ones by their length.
+/// A string as an answer shows it.
 pub fn shown(bytes: &[u8]) -> String {
-    if bytes.len() > 16 {
-        return format!("of {} bytes", bytes.len());
-    }
     let letter = |b: &u8| if (32..127).contains(b) { (*b as char).to_string() } else { format!("\\{b:02x}") };
     format!("\"{}\"", bytes.iter().map(letter).collect::<String>())
 }
