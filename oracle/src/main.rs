@@ -4,11 +4,14 @@
 //!   oracle script              a script on standard input, its lines with toydb's answers on standard output
 //!   oracle record lines         a sample of scripts
 //!   oracle record answers       the same with toydb's answers
+//!   oracle timing SIDE          the calls of a bench request on standard input: SIDE is plain or toydb
+//!   oracle bench PROGRAM        the bench: the program of crate timing beside the Rust
 //!   oracle tapes BENCH N        N tapes of every kind, on toydb and on the program BENCH
 //!   oracle calls PROGRAM N      N scripts of every kind, on toydb and on the program PROGRAM
 //!   oracle host DRIVER N        keys and logs, all small ones and N seeds, on toydb and through the program DRIVER (host/driver.c)
 //!   oracle listed PROGRAM DRIVER  the cases of docs/DIFFERENCES.md, on toydb by itself and on ours
 
+mod bench;
 mod calls;
 mod compare_calls;
 mod compare_host;
@@ -21,6 +24,7 @@ mod lines;
 mod listed;
 mod logs;
 mod ours;
+mod plain;
 mod random;
 mod record;
 mod report;
@@ -30,6 +34,7 @@ mod steps;
 mod store;
 mod tape;
 mod tapes;
+mod timing;
 
 use std::io::{Read as _, Write as _};
 use std::path::PathBuf;
@@ -71,6 +76,8 @@ fn main() {
         Some("tape") => run_tape(args.get(1)),
         Some("script") => run_script(),
         Some("record") if args.len() == 2 => record::record(args[1] == "answers"),
+        Some("timing") if args.len() == 2 => timing::run(&args[1]),
+        Some("bench") if args.len() == 2 => bench::bench(&args[1]),
         Some("tapes") if args.len() == 3 => compare_tapes::compare(&args[1], number(2).expect("a number")),
         Some("calls") if args.len() == 3 => compare_calls::compare(&args[1], number(2).expect("a number")),
         Some("host") if args.len() == 3 => compare_host::compare(&args[1], number(2).expect("a number")),
