@@ -25,9 +25,12 @@ impl Report {
         }
     }
 
+    /// The first ones are printed; the count has all.
     pub fn differs(&mut self, text: &str) {
         self.differences += 1;
-        println!("DIFFERENCE {text}");
+        if self.differences <= 20 {
+            println!("DIFFERENCE {text}");
+        }
     }
 
     /// One paragraph for the part; whether nothing differed.

@@ -23,7 +23,7 @@ pub fn log(keys: u64) -> Vec<u8> {
     let mut plain = Plain::open(Vec::new());
     plain.put(vec![0], &2u64.to_be_bytes());
     for n in 0..keys {
-        let value = [&[1, b'0' + (n % 10) as u8], b" is the value of this key".as_slice()].concat();
+        let value = [&[1, b'0' + (n % 10) as u8], b" a value".as_slice()].concat();
         plain.put(version_key(&key(n), 1), &value);
     }
     plain.log()

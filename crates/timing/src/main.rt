@@ -11,9 +11,9 @@ use recovery::Used;
 
 const HEADER: usize = 24;
 
-const LOG_BYTES: usize = 2_097_152;
+const LOG_BYTES: usize = 500_000;
 
-const TABLE_WORDS: usize = 120_000;
+const TABLE_WORDS: usize = 45_000;
 
 struct Request {
     call: u64,

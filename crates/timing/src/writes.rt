@@ -1,8 +1,8 @@
 // The calls that change the store.
+use crate::reads::used_of;
 use crate::turns::next;
 use crate::turns::plus;
 use crate::turns::spell;
-use crate::reads::used_of;
 use compaction::compact::compact;
 use handle::Handle;
 use recovery::Changed;
@@ -17,7 +17,14 @@ fn kept(answer: Changed, used: Used) -> Used {
 }
 
 // As many sets in one transaction: a key each, in turn.
-fn set_many(log: &mut [u8], used: Used, table: &mut [u32], h: Handle, keys: u64, times: u64) -> Used {
+fn set_many(
+    log: &mut [u8],
+    used: Used,
+    table: &mut [u32],
+    h: Handle,
+    keys: u64,
+    times: u64,
+) -> Used {
     let mut u = used;
     let mut n: u64 = 0;
     let mut i: u64 = 0;
@@ -47,7 +54,13 @@ pub fn sets_committed(log: &mut [u8], used: Used, table: &mut [u32], keys: u64, 
 }
 
 // There and back: two compactions a turn.
-pub fn compactions(log: &mut [u8], used: Used, table: &mut [u32], target: &mut [u8], times: u64) -> u64 {
+pub fn compactions(
+    log: &mut [u8],
+    used: Used,
+    table: &mut [u32],
+    target: &mut [u8],
+    times: u64,
+) -> u64 {
     let mut sum: u64 = 0;
     let mut u = used;
     let mut i: u64 = 0;
