@@ -7,7 +7,7 @@ use std::process::{Command, Stdio};
 use crate::timing::{CALLS, log, request};
 
 /// Runs of each measurement; the shortest counts.
-const RUNS: usize = 5;
+const RUNS: usize = 3;
 
 /// One side, by its words.
 struct Side {
@@ -76,7 +76,7 @@ fn times(call: usize, keys: u64) -> (u64, u64) {
     match CALLS[call] {
         "get" => (100_000, 1_000),
         "set" | "set, commit" => (1_000, 1_000),
-        "scan" => (500_000 / keys, 10),
+        "scan" => (100_000 / keys, 1),
         _ => (100_000 / keys, 4),
     }
 }
