@@ -128,7 +128,9 @@ pub fn bench(program: &str) -> bool {
     let me = std::env::current_exe().expect("this program").display().to_string();
     let side = |name, words: &[&str]| Side { name, words: words.iter().map(|w| w.to_string()).collect() };
     let sides = [side("ours", &[program]), side("plain", &[&me, "timing", "plain"]), side("toydb", &[&me, "timing", "toydb"])];
-    println!("nanoseconds of processor time a call, the shortest of {RUNS} runs; ratios; instructions a call where valgrind counts them");
+    println!(
+        "nanoseconds of processor time a call, the shortest of {RUNS} runs; ratios; instructions a call where valgrind counts them"
+    );
     let names = sides.iter().map(|s| s.name);
     let head: String = names.clone().map(|n| format!("{n:>12}")).collect();
     let tail: String = names.map(|n| format!("{n:>14}")).collect();

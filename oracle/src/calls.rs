@@ -9,8 +9,19 @@ use crate::script::{After, Script, Setting};
 use crate::spell::word;
 
 pub const KINDS: [&str; 13] = [
-    "good", "conflicts", "odd keys", "long values", "many open", "forged handles", "snapshots", "damaged", "damaged scans", "walks",
-    "tight", "cuts", "contents",
+    "good",
+    "conflicts",
+    "odd keys",
+    "long values",
+    "many open",
+    "forged handles",
+    "snapshots",
+    "damaged",
+    "damaged scans",
+    "walks",
+    "tight",
+    "cuts",
+    "contents",
 ];
 
 /// Hands that a history takes its handles from; another is for cases that forge one.
@@ -31,9 +42,8 @@ struct Maker<'a> {
 
 fn key(random: &mut Random, kind: &str) -> Vec<u8> {
     let few: [&[u8]; 4] = [b"a", b"b", b"ab", b"c"];
-    let odd: [&[u8]; 12] = [
-        b"", b"\x00", b"\x00\x00", b"\xff", b"\xff\xff", b"a", b"a\x00", b"a\x00\xff", b"a\x00b", b"a\xff", b"b", b"aa",
-    ];
+    let odd: [&[u8]; 12] =
+        [b"", b"\x00", b"\x00\x00", b"\xff", b"\xff\xff", b"a", b"a\x00", b"a\x00\xff", b"a\x00b", b"a\xff", b"b", b"aa"];
     if random.percent(3) {
         let len = 63 + random.below(3);
         return vec![*random.pick(b"k\x00\xff"); len];

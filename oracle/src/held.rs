@@ -112,10 +112,7 @@ impl Engine for Held {
         pairs.into_iter().filter(|(k, _)| self.shown(k)).map(Ok).collect::<Vec<_>>().into_iter()
     }
 
-    fn scan_dyn(
-        &mut self,
-        range: (Bound<Vec<u8>>, Bound<Vec<u8>>),
-    ) -> Box<dyn toydb::storage::ScanIterator + '_> {
+    fn scan_dyn(&mut self, range: (Bound<Vec<u8>>, Bound<Vec<u8>>)) -> Box<dyn toydb::storage::ScanIterator + '_> {
         Box::new(self.scan(range))
     }
 

@@ -39,11 +39,7 @@ impl Hand {
         set.resize(self.count.min(MAX_OPEN + 1), 0);
         let rises = set.windows(2).all(|w| w[0] < w[1]);
         let active: BTreeSet<u64> = set.iter().copied().collect();
-        (self.count <= MAX_OPEN && rises).then_some(TransactionState {
-            version: self.version,
-            read_only: self.read_only,
-            active,
-        })
+        (self.count <= MAX_OPEN && rises).then_some(TransactionState { version: self.version, read_only: self.read_only, active })
     }
 }
 

@@ -140,4 +140,3 @@ pub fn random(seed: u64, n: usize, path: &Path) -> Vec<Request> {
     }
     out
 }
-

@@ -66,9 +66,7 @@ impl Store {
     }
 
     fn versions(&self) -> Vec<(Vec<u8>, Vec<u8>)> {
-        let keys = self.engine(|e| {
-            e.file.scan(vec![4]..vec![5]).map(|pair| pair.expect("a pair").0).collect::<Vec<_>>()
-        });
+        let keys = self.engine(|e| e.file.scan(vec![4]..vec![5]).map(|pair| pair.expect("a pair").0).collect::<Vec<_>>());
         let user = |key: &Vec<u8>| match Key::decode(key) {
             Ok(Key::Version(user, _)) => Some((key.clone(), user.into_owned())),
             _ => None,

@@ -4,7 +4,16 @@ use crate::random::Random;
 use crate::tape::*;
 
 pub const KINDS: [&str; 11] = [
-    "conflicts", "as-of", "full log", "full table", "compaction", "odd keys", "long keys", "many open", "mixed", "malformed",
+    "conflicts",
+    "as-of",
+    "full log",
+    "full table",
+    "compaction",
+    "odd keys",
+    "long keys",
+    "many open",
+    "mixed",
+    "malformed",
     "random bytes",
 ];
 
@@ -23,8 +32,23 @@ fn words(list: &[&[u8]]) -> Vec<Vec<u8>> {
 
 fn odd_keys() -> Vec<Vec<u8>> {
     words(&[
-        b"", b"\x00", b"\x00\x00", b"\x00\xff", b"\xff", b"\xff\xff", b"\xff\x00", b"a", b"a\x00", b"a\x00b", b"a\xff", b"a\xff\xff",
-        b"b", b"aa", b"\x01", b"\x00\x01", b"\xfe\xff",
+        b"",
+        b"\x00",
+        b"\x00\x00",
+        b"\x00\xff",
+        b"\xff",
+        b"\xff\xff",
+        b"\xff\x00",
+        b"a",
+        b"a\x00",
+        b"a\x00b",
+        b"a\xff",
+        b"a\xff\xff",
+        b"b",
+        b"aa",
+        b"\x01",
+        b"\x00\x01",
+        b"\xfe\xff",
     ])
 }
 
