@@ -8,7 +8,7 @@ use crate::random::Random;
 use crate::script::{After, Script, Setting};
 use crate::spell::word;
 
-pub const KINDS: [&str; 13] = [
+pub const KINDS: [&str; 14] = [
     "good",
     "conflicts",
     "odd keys",
@@ -22,6 +22,7 @@ pub const KINDS: [&str; 13] = [
     "tight",
     "cuts",
     "contents",
+    "last versions",
 ];
 
 /// Hands that a history takes its handles from; another is for cases that forge one.
@@ -274,23 +275,30 @@ impl Maker<'_> {
         }
     }
 
-    /// Every live record, and what is left of the log where it is cut or goes on with anything.
+    /// A call that shows something of the live records.
+    fn look(&mut self) -> String {
+        if self.keys.is_empty() || self.random.percent(50) {
+            return "engine-status".to_string();
+        }
+        format!("engine-get {}", word(&self.random.pick(&self.keys).clone()))
+    }
+
+    /// Every live record; and what is left of the log, and of a compacted one, where it is cut or goes on with anything.
     fn contents(&mut self) {
         for key in self.keys.clone() {
             self.lines.push(format!("engine-get {}", word(&key)));
         }
+        let compacted = self.script.run_items(&self.now, "compact").setting.bytes.len();
         for _ in 0..8 {
+            let look = self.look();
             let at = self.random.below(self.now.bytes.len() + 1);
-            let call = if self.keys.is_empty() || self.random.percent(50) {
-                "engine-status".to_string()
-            } else {
-                format!("engine-get {}", word(&self.random.pick(&self.keys).clone()))
-            };
-            self.lines.push(format!("used {at}, open, {call}"));
-            self.lines.push(format!("used {at}, open, compact, {call}"));
+            self.lines.push(format!("used {at}, open, {look}"));
+            self.lines.push(format!("used {at}, open, compact, {look}"));
+            let at = self.random.below(compacted + 1);
+            self.lines.push(format!("compact, used {at}, open, {look}"));
             let len = self.random.below(24);
             let junk: Vec<u8> = (0..len).map(|_| *self.random.pick(&[0, 0, 0, 0, 1, 2, 4, 0xff])).collect();
-            self.lines.push(format!("raw {}, open, {call}", word(&junk)));
+            self.lines.push(format!("raw {}, open, {look}", word(&junk)));
         }
     }
 
@@ -321,8 +329,10 @@ pub fn script(kind: &str, seed: u64, path: &Path) -> Vec<String> {
         writers: Vec::new(),
         lines: vec![format!("Seed {seed} of {kind}")],
     };
-    if kind == "tight" {
-        maker.history("room 700, target 700, slots 12");
+    match kind {
+        "tight" => maker.history("room 700, target 700, slots 12"),
+        "last versions" => maker.history(&format!("lay \"\\00\" \"#{}\"", u64::MAX - maker.random.below(6) as u64)),
+        _ => {}
     }
     for _ in 0..3 {
         maker.grow();

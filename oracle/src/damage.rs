@@ -109,7 +109,7 @@ pub fn damage(random: &mut Random, kind: &str) -> String {
         (_, 0) => format!("lay \"\\00\" {}", next_version(random)),
         (_, 1) => format!("lay {} {}", active_key(random).word(), payload(random)),
         (_, 3 | 4) => format!("lay {} {}", write_key(random).word(), payload(random)),
-        (_, 5 | 6 | 7) => versions(random),
+        (_, 5..=7) => versions(random),
         (_, 8) => format!("lay {} {}", random.pick(&["\"\"", "\"\\00x\"", "\"\\05\"", "\"\\06\"", "\"\\ff\""]), payload(random)),
         _ => format!("cut {}", any_key(random).word()),
     }

@@ -140,7 +140,7 @@ impl Line {
 
     /// Row 13 for what is lent to every call.
     fn is_bad_request(&self) -> bool {
-        self.store.used() > self.setting.size || self.setting.words % 3 != 0
+        self.store.used() > self.setting.size || !self.setting.words.is_multiple_of(3)
     }
 
     fn begun(&mut self, answer: Answer<TransactionState>) -> Given {

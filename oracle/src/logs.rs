@@ -48,7 +48,7 @@ fn recover(log: &[u8], path: &Path) -> (Vec<peek::Place>, Vec<u8>) {
 pub fn open(log: &[u8], used: usize, table: usize, path: &Path) -> Request {
     let shown = if log.is_empty() { "-".to_string() } else { hex(log) };
     let line = format!("open {shown} {used} {table}");
-    if used > log.len() || table % SLOT != 0 {
+    if used > log.len() || !table.is_multiple_of(SLOT) {
         return answered(&line, BAD_REQUEST, 0, &vec![0; table]);
     }
     let (places, left) = recover(&log[..used], path);
