@@ -1,0 +1,2 @@
+-- The table of document 01's bench readings.
+pub mod BenchTable

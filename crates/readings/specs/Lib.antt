@@ -1,0 +1,2 @@
+-- Document 01's bench readings P1 to P11.
+pub mod Bench

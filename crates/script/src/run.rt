@@ -1,0 +1,133 @@
+// A call on a store by value: what it leaves, its number, and its answer shown.
+use crate::calls::answered;
+use crate::store::LOG_BYTES;
+use crate::store::Store;
+use crate::store::TABLE_WORDS;
+use crate::store::held;
+use crate::store::hold;
+use crate::store::same;
+use keycode::Refusal;
+use mvcc::Begun;
+use recovery::Changed;
+use recovery::Used;
+use spelling::asked::Asked;
+use spelling::names::COMPACT;
+use spelling::names::GET;
+use spelling::names::SET;
+use spelling::show;
+use spelling::show::text;
+
+// Document 01, 'Numbers returned'.
+fn number_of(r: Refusal) -> u64 {
+    match r {
+        Refusal::Absent => 1,
+        Refusal::ReadOnly => 2,
+        Refusal::NotOpen => 3,
+        Refusal::KeyTooLong => 4,
+        Refusal::ValueTooLong => 5,
+        Refusal::Conflict => 6,
+        Refusal::LogFull => 7,
+        Refusal::TableFull => 8,
+        Refusal::TooManyOpen => 9,
+        Refusal::NoSuchVersion => 10,
+        Refusal::VersionsSpent => 11,
+        Refusal::BadStore => 12,
+        Refusal::BadRequest => 13,
+    }
+}
+
+fn numbered(s: Store, answer: Changed) -> Store {
+    let mut t = s;
+    match answer {
+        Changed::Done(u) => {
+            t.used = u.len;
+            t.number = 0;
+        }
+        Changed::Refused(r) => t.number = number_of(r),
+    }
+    t
+}
+
+// The calls that only look have shown themselves what comes with a 0.
+fn shown(name: usize, before: Store, after: Store) {
+    let n = after.number;
+    if n != 0 {
+        return show::refused(n, same(before, after));
+    }
+    if name < GET || SET <= name {
+        show::done(after.used);
+    }
+}
+
+// After a compaction the target is the log, and the old log the next target.
+fn turned(s: Store) -> Store {
+    let mut t = s;
+    let log = s.log;
+    let spare = s.spare;
+    t.log = spare;
+    t.spare = log;
+    t.size = s.room;
+    t.room = s.size;
+    t
+}
+
+// A handle comes with a refusal too, and is shown; the one in hand stays.
+fn finished(before: Store, left: Store, a: Asked, b: Begun) -> Store {
+    let answer = b.answer;
+    let h = b.handle;
+    let after = numbered(left, answer);
+    if a.loud {
+        shown(a.name, before, after);
+        if a.name < GET {
+            show::handle(h);
+        }
+    }
+    if after.number != 0 {
+        return after;
+    }
+    if a.name == COMPACT {
+        return turned(after);
+    }
+    hold(after, h)
+}
+
+// More was to be lent than there is.
+fn unlent(s: Store) -> Store {
+    text(b" NOT THERE TO LEND");
+    s
+}
+
+pub fn run(s: Store, a: Asked, version: u64, key: &[u8], value: &[u8], last: &[u8]) -> Store {
+    let mut log = s.log;
+    let mut spare = s.spare;
+    let mut table = s.table;
+    let size = s.size;
+    let room = s.room;
+    let words = s.words;
+    if LOG_BYTES < size {
+        return unlent(s);
+    }
+    if LOG_BYTES < room {
+        return unlent(s);
+    }
+    if TABLE_WORDS < words {
+        return unlent(s);
+    }
+    let b = answered(
+        a,
+        Used { len: s.used },
+        held(s),
+        version,
+        &mut log[..size],
+        &mut table[..words],
+        &mut spare[..room],
+        key,
+        value,
+        last,
+    );
+    let mut t = s;
+    t.log = log;
+    t.spare = spare;
+    t.table = table;
+    finished(s, t, a, b)
+}
