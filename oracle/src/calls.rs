@@ -331,7 +331,10 @@ pub fn script(kind: &str, seed: u64, path: &Path) -> Vec<String> {
     };
     match kind {
         "tight" => maker.history("room 700, target 700, slots 12"),
-        "last versions" => maker.history(&format!("lay \"\\00\" \"#{}\"", u64::MAX - maker.random.below(6) as u64)),
+        "last versions" => {
+            let next = u64::MAX - maker.random.below(6) as u64;
+            maker.history(&format!("lay \"\\00\" \"#{next}\""));
+        }
         _ => {}
     }
     for _ in 0..3 {
