@@ -86,11 +86,15 @@ fn calls_in(call: usize) -> f64 {
     if CALLS[call] == "compact" { 2.0 } else { 1.0 }
 }
 
+/// What calls cost: None where it could not be told.
 struct Cost {
-    nanoseconds: f64,
+    nanoseconds: Option<f64>,
     instructions: Option<f64>,
     sum: String,
 }
+
+/// Processor time is told in steps of some milliseconds: a shorter difference says nothing.
+const LEAST_SECONDS: f64 = 0.01;
 
 fn cost(side: &Side, call: usize, keys: u64, bytes: &[u8]) -> Cost {
     let (many, counted) = times(call, keys);
@@ -99,42 +103,40 @@ fn cost(side: &Side, call: usize, keys: u64, bytes: &[u8]) -> Cost {
     let (long, sum) = shortest(side, &input(many));
     let instructions = instructions(side, &input(0)).zip(instructions(side, &input(counted)));
     Cost {
-        nanoseconds: (long - base) * 1e9 / (many as f64 * calls_in(call)),
+        nanoseconds: (long - base > LEAST_SECONDS).then(|| (long - base) * 1e9 / (many as f64 * calls_in(call))),
         instructions: instructions.map(|(a, b)| (b - a) / (counted as f64 * calls_in(call))),
         sum,
     }
 }
 
-/// The commit alone: what the sets with it cost over the sets without.
+/// The commit alone: what the sets with it cost over the sets without. Its time is lost in theirs; its instructions are not.
 fn commit(set: &Cost, both: &Cost) -> Cost {
-    Cost {
-        nanoseconds: both.nanoseconds - set.nanoseconds,
-        instructions: both.instructions.zip(set.instructions).map(|(a, b)| a - b),
-        sum: both.sum.clone(),
-    }
+    let instructions = both.instructions.zip(set.instructions).map(|(a, b)| a - b);
+    Cost { nanoseconds: None, instructions, sum: both.sum.clone() }
+}
+
+/// Ratios are of instructions, or of time where nothing counts them.
+fn ratio(ours: &Cost, other: &Cost) -> String {
+    let counted = ours.instructions.zip(other.instructions);
+    counted.or(ours.nanoseconds.zip(other.nanoseconds)).map_or("-".to_string(), |(a, b)| format!("{:.2}", a / b))
 }
 
 fn say(name: &str, keys: u64, costs: &[Cost]) {
-    let times: Vec<String> = costs.iter().map(|c| format!("{:>12.0}", c.nanoseconds)).collect();
-    let ratio = |other: &Cost| costs[0].nanoseconds / other.nanoseconds;
-    print!("{name:<16}{keys:>7} {} {:>10.2} {:>10.2}", times.join(""), ratio(&costs[1]), ratio(&costs[2]));
-    for c in costs {
-        print!("{:>14}", c.instructions.map_or("-".to_string(), |n| format!("{n:.0}")));
-    }
-    println!();
+    let show = |n: Option<f64>| n.map_or("-".to_string(), |n| format!("{n:.0}"));
+    let times: String = costs.iter().map(|c| format!("{:>12}", show(c.nanoseconds))).collect();
+    let counts: String = costs.iter().map(|c| format!("{:>13}", show(c.instructions))).collect();
+    let (plain, toydb) = (ratio(&costs[0], &costs[1]), ratio(&costs[0], &costs[2]));
+    println!("{name:<16}{keys:>6}{times}{counts}{plain:>10}{toydb:>10}");
 }
 
 pub fn bench(program: &str) -> bool {
     let me = std::env::current_exe().expect("this program").display().to_string();
     let side = |name, words: &[&str]| Side { name, words: words.iter().map(|w| w.to_string()).collect() };
     let sides = [side("ours", &[program]), side("plain", &[&me, "timing", "plain"]), side("toydb", &[&me, "timing", "toydb"])];
-    println!(
-        "nanoseconds of processor time a call, the shortest of {RUNS} runs; ratios; instructions a call where valgrind counts them"
-    );
-    let names = sides.iter().map(|s| s.name);
-    let head: String = names.clone().map(|n| format!("{n:>12}")).collect();
-    let tail: String = names.map(|n| format!("{n:>14}")).collect();
-    println!("{:<16}{:>7} {head} {:>10} {:>10}{tail}", "call", "keys", "to plain", "to toydb");
+    println!("nanoseconds of processor time a call, the shortest of {RUNS} runs; instructions a call, by valgrind; ratios");
+    let times: String = sides.iter().map(|s| format!("{:>12}", s.name)).collect();
+    let counts: String = sides.iter().map(|s| format!("{:>13}", s.name)).collect();
+    println!("{:<16}{:>6}{times}{counts}{:>10}{:>10}", "call", "keys", "to plain", "to toydb");
     let mut fine = true;
     for keys in [1_000, 10_000] {
         let bytes = log(keys);
