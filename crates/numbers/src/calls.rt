@@ -180,8 +180,8 @@ fn laid(g: Given, log: &mut [u8], table: &mut [u32], key: &[u8], value: &[u8]) -
     let used = Used { len: g.used };
     let name = g.name;
     match name {
-        LAY => bitcask::change::set(log, used, table, key, value),
-        CUT => bitcask::change::delete(log, used, table, key),
+        LAY => changes::change::set(log, used, table, key, value),
+        CUT => changes::change::delete(log, used, table, key),
         _ => recovery::open(log, used, table),
     }
 }
