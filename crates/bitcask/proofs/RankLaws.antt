@@ -8,17 +8,14 @@ use Rattle.keydir.specs.declared.slots.Slot.{Slot}
 use Rattle.keydir.specs.declared.place.Found.{Found}
 use Rattle.keydir.specs.declared.place.Found.the-variants.{At, Before}
 use Rattle.keydir.specs.Slots.{slotsOf}
-use Rattle.keydir.specs.Place.{placeOf, Among}
+use Rattle.keydir.specs.Place.{placeOf}
 use Rattle.keydir.proofs.SlotLaws.{slots-length}
-use Rattle.keydir.proofs.PlaceLaws.{place-among, place-at, place-before}
+use Rattle.keydir.proofs.PlaceLaws.{place-at, place-before}
 use Rattle.bitcask.specs.declared.answers.Bound.{Bound}
 use Rattle.bitcask.specs.declared.answers.Bound.the-variants.{Included, Excluded, Unbounded}
 use Rattle.bitcask.specs.Ranks.{below, upto, fromBound, uptoBound}
 
 module _ (log key t : List ℕ) (n : ℕ) (f : Found) (says : f ≡ placeOf log key (slotsOf n t)) where
-  pub found-among : Among n f
-  found-among = rw says (rw (slots-length n t) at (place-among log key (slotsOf n t)))
-
   module _ (i : ℕ) where
     pub found-at : f ≡ At i → i < n
     found-at e = omega (arith, slots-length n t, place-at log key (slotsOf n t) i (sym says ∙ e))

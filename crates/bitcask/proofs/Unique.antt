@@ -1,40 +1,13 @@
--- Two results that a promise of set, delete, get or scan step admits, where the table agrees with the log, are one. Assumes nothing.
-use Prim.Native.Nat.{ℕ, zero, suc, _+_}
-use mathlib.Core.Path.{_≡_, refl, sym, ap, _∙_, subst}
+-- Two results that the promise of get or scan step admits, where the table agrees with the log, are one. Assumes nothing.
+use Prim.Native.Nat.{ℕ}
+use mathlib.Core.Path.{_≡_, sym, _∙_}
 use mathlib.Core.Bool.{Bool}
 use mathlib.Core.List.{List}
-use lib.ListN.{length}
-use Rattle.keycode.specs.Tests.{ifDone}
-use Rattle.keycode.specs.Buffer.{put}
-use Rattle.entry.specs.Entry.{Entry, bytesOf, sizeOf}
-use Rattle.recovery.specs.declared.request.Changed.{Changed}
 use Rattle.recovery.specs.Agree.{Agrees}
-use Rattle.recovery.specs.Promises.{changedNumber}
-use Rattle.recovery.proofs.AgreeLaws.{agrees-unique}
 use Rattle.bitcask.specs.declared.answers.Bound.{Bound}
 use Rattle.bitcask.specs.declared.answers.Located.{Located}
 use Rattle.bitcask.specs.declared.answers.Stepped.{Stepped}
-use Rattle.bitcask.specs.Promises.{Changes, Gets, Steps}
-
-module _ {log : List ℕ} {used : ℕ} {t : List ℕ} {e : Entry} {r r′ : Changed} {l l′ x x′ : List ℕ} (g : Agrees log used t) (w : Changes log used t e r l x) (w′ : Changes log used t e r′ l′ x′) where
-  pub changes-answer : r ≡ r′
-  changes-answer = w .answer g ∙ sym (w′ .answer g)
-
-  pub changes-log : l ≡ l′
-  changes-log = w .bytes ∙ ap (λ (y : Changed). ifDone (changedNumber y) (put log used (bytesOf e)) log) changes-answer ∙ sym (w′ .bytes)
-
-  pub changes-table : x ≡ x′
-  changes-table = go (changedNumber r) refl
-    where
-      same : changedNumber r′ ≡ changedNumber r
-      same = ap changedNumber (sym changes-answer)
-
-      go : (n : ℕ) → changedNumber r ≡ n → x ≡ x′
-      go zero q = agrees-unique (subst (λ (y : List ℕ). Agrees y (used + sizeOf e) x) changes-log (w .again g q)) (w′ .again g (same ∙ q)) (w .long ∙ sym (w′ .long))
-      go (suc n) q = stays (w .words) q ∙ sym (stays (w′ .words) (same ∙ q))
-        where
-          stays : {n m : ℕ} {a b : List ℕ} → a ≡ ifDone n a b → n ≡ suc m → a ≡ b
-          stays p h = p ∙ rw h
+use Rattle.bitcask.specs.Promises.{Gets, Steps}
 
 pub gets-unique : {log : List ℕ} {used : ℕ} {t key : List ℕ} {r r′ : Located} → Agrees log used t → Gets log used t key r → Gets log used t key r′ → r ≡ r′
 gets-unique g w w′ = w .answer g ∙ sym (w′ .answer g)

@@ -30,7 +30,7 @@ use Rattle.recovery.proofs.FoldLaws.{map-rising}
 use Rattle.recovery.proofs.AgreeLaws.{sound-fit, agrees-sound, agrees-slots}
 use Rattle.compaction.specs.declared.status.Sum.{Sum}
 use Rattle.compaction.specs.declared.status.Sum.the-variants.{Total, Over}
-use Rattle.bitcask.specs.Append.{sizeAll, bytesAll}
+use Rattle.changes.specs.Append.{sizeAll, bytesAll}
 use Rattle.compaction.specs.Compaction.{entriesOf, capped, placed, Moved}
 use Rattle.compaction.specs.Promises.{compactAnswer, Compacts}
 use Rattle.compaction.proofs.LiveLaws.{total-says, over-says, sizes-live, agrees-live}

@@ -9,7 +9,7 @@ use Rattle.recovery.specs.Recover.{mapOf}
 use Rattle.recovery.specs.Agree.{Agrees}
 use Rattle.recovery.proofs.AgreeLaws.{agrees-unique}
 use Rattle.compaction.specs.declared.status.Counted.{Counted}
-use Rattle.bitcask.specs.Append.{sizeAll}
+use Rattle.changes.specs.Append.{sizeAll}
 use Rattle.compaction.specs.Compaction.{entriesOf}
 use Rattle.compaction.specs.Promises.{Compacts, Counting}
 

@@ -24,9 +24,9 @@ use Rattle.recovery.specs.Promises.{changedNumber}
 use Rattle.recovery.proofs.FoldLaws.{map-rising}
 use Rattle.recovery.proofs.AgreeLaws.{agrees-sound, agrees-room, map-length}
 use Rattle.recovery.proofs.GrowLaws.{Grown, grown-append, grown-more}
-use Rattle.bitcask.specs.Append.{sizeAll, afterAll, appendAnswer}
+use Rattle.changes.specs.Append.{sizeAll, afterAll, appendAnswer}
 use Rattle.compaction.specs.Compaction.{entriesOf}
-use Rattle.bitcask.specs.Promises.{Changes, changeAnswer}
+use Rattle.changes.specs.Promises.{Changes, changeAnswer}
 use Rattle.compaction.specs.Promises.{Compacts, compactAnswer}
 use Rattle.compaction.proofs.PackLaws.{packed-all}
 

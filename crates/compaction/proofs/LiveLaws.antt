@@ -26,7 +26,7 @@ use Rattle.compaction.specs.declared.status.Sum.{Sum}
 use Rattle.compaction.specs.declared.status.Sum.the-variants.{Total, Over}
 use Rattle.compaction.specs.declared.status.Counts.{Counts}
 use Rattle.compaction.specs.declared.status.Counted.the-variants.{Done, Refused}
-use Rattle.bitcask.specs.Append.{sizeAll}
+use Rattle.changes.specs.Append.{sizeAll}
 use Rattle.compaction.specs.Compaction.{entriesOf, contents, capped}
 use Rattle.compaction.specs.Promises.{countsOf, Counting}
 

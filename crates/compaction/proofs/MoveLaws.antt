@@ -16,7 +16,7 @@ use Rattle.keydir.specs.declared.slots.Slot.{Slot}
 use Rattle.keydir.specs.Slots.{slotWords, freeSlot, slotHead, slotAt, slotsOf, wordsOf, keyOf, valueOf}
 use Rattle.keydir.proofs.SlotLaws.{words-append, words-length, slots-length, slot-at-is}
 use Rattle.recovery.specs.Recover.{view}
-use Rattle.bitcask.specs.Append.{slotOf, sizeAll, bytesAll}
+use Rattle.changes.specs.Append.{slotOf, sizeAll, bytesAll}
 use Rattle.compaction.specs.Compaction.{entriesOf, entryIn, placed, MovedOne, Moved}
 
 -- ---- lists of entries

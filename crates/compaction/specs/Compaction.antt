@@ -12,7 +12,7 @@ use Rattle.keydir.specs.Slots.{slotWords, wordsOf, keyOf, valueOf}
 use Rattle.recovery.specs.Map.{Pair}
 use Rattle.compaction.specs.declared.status.Sum.{Sum}
 use Rattle.compaction.specs.declared.status.Sum.the-variants.{Total, Over}
-use Rattle.bitcask.specs.Append.{slotOf, sizeAll, bytesAll}
+use Rattle.changes.specs.Append.{slotOf, sizeAll, bytesAll}
 
 -- the entries of a map, in key order
 unfoldable pub entriesOf : List Pair → List Entry

@@ -19,7 +19,7 @@ use Rattle.recovery.specs.Map.{Pair}
 use Rattle.recovery.specs.Recover.{mapOf}
 use Rattle.recovery.specs.Agree.{fit, Agrees}
 use Rattle.recovery.specs.Promises.{changedNumber}
-use Rattle.bitcask.specs.Append.{sizeAll, bytesAll}
+use Rattle.changes.specs.Append.{sizeAll, bytesAll}
 use Rattle.compaction.specs.declared.status.Counts.{Counts}
 use Rattle.compaction.specs.declared.status.Counted.{Counted}
 use Rattle.compaction.specs.declared.status.Counted.the-variants as Count

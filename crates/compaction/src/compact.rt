@@ -21,7 +21,7 @@ ghost use Rattle.keycode.specs.Limits.{maxLog};
 ghost use Rattle.entry.specs.Entry.{sizeOf};
 ghost use Rattle.keydir.specs.Slots.{slotWords, slotAt, slotsOf};
 ghost use Rattle.recovery.specs.Recover.{view};
-ghost use Rattle.bitcask.specs.Append.{sizeAll};
+ghost use Rattle.changes.specs.Append.{sizeAll};
 ghost use Rattle.compaction.specs.Compaction.{entriesOf, entryIn, MovedOne, Moved};
 ghost use Rattle.compaction.specs.Promises.{Compacts};
 

@@ -1,4 +1,2 @@
--- The laws of handles, payloads and encoded keys by value; the crates above cite them.
+-- The laws of handles.
 pub mod HandleLaws
-pub mod PayloadLaws
-pub mod CodeLaws

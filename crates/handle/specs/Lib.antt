@@ -1,4 +1,2 @@
--- The definitions of handles, payloads and encoded keys by value, in the order in which they build on each other.
+-- The definitions of handles.
 pub mod Handles
-pub mod Payloads
-pub mod Codes

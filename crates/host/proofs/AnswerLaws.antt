@@ -23,11 +23,11 @@ use Rattle.keycode.proofs.BufferLaws.{refused-stays, put-front, put-put}
 use Rattle.keycode.proofs.NumberLaws.{length-be}
 use Rattle.keycode.proofs.StringLaws.{body-bound, plain-done}
 use Rattle.keys.specs.Keys.{Fields, nextVersion, txnActive, txnActiveSnapshot, txnWrite, version, unversioned, encode, userKey, decodeWhy, forget}
-use Rattle.keys.specs.Promises.{encodeAnswer}
+use Rattle.encoders.specs.Promises.{encodeAnswer}
 use Rattle.keys.specs.declared.keys.Key.{Key}
 use Rattle.keys.specs.declared.keys.Decoded.{Decoded}
 use Rattle.keys.specs.declared.keys.Decoded.the-variants.{Whole, Refused as NotWhole}
-use Rattle.keys.proofs.EncodeLaws.{measure-says, two-put, version-length, write-length, unversioned-length}
+use Rattle.encoders.proofs.EncodeLaws.{measure-says, two-put, version-length, write-length, unversioned-length}
 use Rattle.host.specs.Answers.{half, lengthOf, packed, Tells}
 use Rattle.host.specs.Promises.{Gives, Encodes, Unescapes, Decodes, fieldCount, split, laidOut, splitBytes}
 use Rattle.host.specs.declared.coding.Split.{Split}

@@ -15,7 +15,7 @@ use Rattle.keycode.specs.declared.refusal.Length.{Length}
 use Rattle.keycode.specs.declared.refusal.Length.the-variants.{Done, Refused}
 use Rattle.keycode.specs.declared.refusal.Refusal.the-variants.{BadRequest}
 use Rattle.keys.specs.Keys.{Fields, encode, userKey, decodeWhy, forget}
-use Rattle.keys.specs.Promises.{encodeAnswer}
+use Rattle.encoders.specs.Promises.{encodeAnswer}
 use Rattle.keys.specs.declared.keys.Key.{Key}
 use Rattle.keys.specs.declared.keys.Key.the-variants.{NextVersion, TxnActive, TxnActiveSnapshot, TxnWrite, Version, Unversioned}
 use Rattle.keys.specs.declared.keys.Decoded.{Decoded}

@@ -22,24 +22,29 @@ use Rattle.recovery.specs.declared.request.Changed.the-variants as Change
 use Rattle.recovery.specs.Recover.{mapOf}
 use Rattle.recovery.specs.Agree.{Agrees}
 use Rattle.recovery.specs.Promises.{changedNumber}
-use Rattle.bitcask.specs.declared.append.Check.{Check}
-use Rattle.bitcask.specs.declared.append.Check.the-variants.{Fine}
-use Rattle.bitcask.specs.Append.{sizeAll, afterAll, appendAnswer}
-use Rattle.handle.specs.declared.payload.SetAnswer.the-variants as SetAnswers
+use Rattle.changes.specs.declared.append.Check.{Check}
+use Rattle.changes.specs.declared.append.Check.the-variants.{Fine}
+use Rattle.changes.specs.Append.{sizeAll, afterAll, appendAnswer}
+use Rattle.payloads.specs.declared.SetAnswer.the-variants as SetAnswers
 use Rattle.handle.specs.declared.handle.Handle.{Handle}
 use Rattle.handle.specs.Handles.{handleOf}
 use Rattle.txn.specs.declared.begun.Begun.{Begun}
 use Rattle.txn.specs.Given.{refusedBy, begunWith}
 use Rattle.txn.specs.Checks.{orElse}
 use Rattle.txn.specs.Lists.{Dels}
-use Rattle.mvcc_begin.specs.declared.status.Versions.{Versions}
-use Rattle.mvcc_begin.specs.declared.status.Stated.{Stated}
-use Rattle.mvcc_begin.specs.declared.status.Stated.the-variants as Stating
+use Rattle.mvcc_view.specs.declared.status.Versions.{Versions}
+use Rattle.mvcc_view.specs.declared.status.Stated.{Stated}
+use Rattle.mvcc_view.specs.declared.status.Stated.the-variants as Stating
 use Rattle.mvcc_begin.specs.Plan.{beginPlan}
-use Rattle.mvcc_begin.specs.Begins.{begunBy, beginWith, readingWith, asOfWith}
-use Rattle.mvcc_begin.specs.Promises.{Begins, BeginsReading, BeginsAsOf, States}
+use Rattle.mvcc_begin.specs.Begins.{begunBy, beginWith}
+use Rattle.mvcc_view.specs.Answers.{readingWith}
+use Rattle.mvcc_past.specs.Answers.{asOfWith}
+use Rattle.mvcc_begin.specs.Promises.{Begins}
+use Rattle.mvcc_view.specs.Promises.{BeginsReading, States}
+use Rattle.mvcc_past.specs.Promises.{BeginsAsOf}
 use Rattle.mvcc_read.specs.Promises.{resumeAnswer, Resumes}
-use Rattle.mvcc_end.specs.Plans.{writesOf, commitPlan, allUsers, rollbackPlan}
+use Rattle.undo.specs.Plans.{allUsers}
+use Rattle.mvcc_end.specs.Plans.{writesOf, commitPlan, rollbackPlan}
 use Rattle.mvcc_end.specs.Promises.{Commits, commitAnswer, RollsBack, undoAnswer, rollbackAnswer}
 use Rattle.mvcc_end.proofs.EndLaws.{dels-done}
 use Rattle.history.specs.History.{After, Sight, unborn, status}

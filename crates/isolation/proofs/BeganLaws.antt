@@ -22,18 +22,22 @@ use Rattle.recovery.specs.declared.request.Changed.the-variants.{Done, Refused}
 use Rattle.recovery.specs.Recover.{mapOf}
 use Rattle.recovery.specs.Agree.{Agrees}
 use Rattle.recovery.specs.Promises.{changedNumber}
-use Rattle.bitcask.specs.Append.{sizeAll, bytesAll, afterAll}
-use Rattle.handle.specs.declared.payload.SetAnswer.the-variants as SetAnswers
-use Rattle.handle.specs.declared.payload.SetRead.{SetRead}
+use Rattle.changes.specs.Append.{sizeAll, bytesAll, afterAll}
+use Rattle.payloads.specs.declared.SetAnswer.the-variants as SetAnswers
+use Rattle.payloads.specs.declared.SetRead.{SetRead}
 use Rattle.handle.specs.Handles.{rising, handleOf}
-use Rattle.handle.specs.Payloads.{Versions, setBytes}
+use Rattle.payloads.specs.Payloads.{Versions, setBytes}
 use Rattle.handle.proofs.HandleLaws.{made-set}
 use Rattle.txn.specs.declared.begun.Begun.{Begun}
 use Rattle.mvcc_begin.specs.Plan.{planBy, beginPlan, planOf}
 use Rattle.txn.specs.Given.{refusedBy}
 use Rattle.txn.proofs.CheckLaws.{not-done}
-use Rattle.mvcc_begin.specs.Begins.{readingWith, beginWith, asOfWith}
-use Rattle.mvcc_begin.specs.Promises.{Begins, BeginsReading, BeginsAsOf}
+use Rattle.mvcc_view.specs.Answers.{readingWith}
+use Rattle.mvcc_past.specs.Answers.{asOfWith}
+use Rattle.mvcc_begin.specs.Begins.{beginWith}
+use Rattle.mvcc_begin.specs.Promises.{Begins}
+use Rattle.mvcc_view.specs.Promises.{BeginsReading}
+use Rattle.mvcc_past.specs.Promises.{BeginsAsOf}
 use Rattle.history.specs.Records.{Rec, nextRec, activeRec, snapRec, wroteRec, verRec, plainRec, keyOf, Map, look, Sorted}
 use Rattle.history.specs.Calls.{nextOf, setOf as snapOf, actives, beginHandle, beginMap}
 use Rattle.history.specs.Run.{Entry, beginE, readE, asOfE, otherE, Trace, readHandle, asOfHandle, do-begin, do-read, do-asOf}

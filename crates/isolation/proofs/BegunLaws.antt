@@ -15,17 +15,19 @@ use Rattle.keycode.specs.declared.refusal.Refusal.the-variants.{TooManyOpen, No
 use Rattle.recovery.specs.declared.request.Changed.{Changed}
 use Rattle.recovery.specs.declared.request.Changed.the-variants.{Done, Refused}
 use Rattle.recovery.specs.Promises.{changedNumber}
-use Rattle.handle.specs.declared.payload.SetAnswer.the-variants as SetAnswers
-use Rattle.handle.specs.declared.payload.SetRead.{SetRead}
+use Rattle.payloads.specs.declared.SetAnswer.the-variants as SetAnswers
+use Rattle.payloads.specs.declared.SetRead.{SetRead}
 use Rattle.handle.specs.Handles.{rising, handleOf}
-use Rattle.handle.specs.Payloads.{Versions}
+use Rattle.payloads.specs.Payloads.{Versions}
 use Rattle.handle.proofs.HandleLaws.{made-set, made-sound}
 use Rattle.txn.specs.declared.begun.Begun.{Begun}
 use Rattle.txn.specs.Given.{refusedBy, begunWith}
 use Rattle.txn.proofs.CheckLaws.{not-done}
-use Rattle.bitcask.specs.Append.{appendAnswer}
+use Rattle.changes.specs.Append.{appendAnswer}
 use Rattle.mvcc_begin.specs.Plan.{beginPlan}
-use Rattle.mvcc_begin.specs.Begins.{readingWith, begunBy, beginWith, asOfWith}
+use Rattle.mvcc_view.specs.Answers.{readingWith}
+use Rattle.mvcc_past.specs.Answers.{asOfWith}
+use Rattle.mvcc_begin.specs.Begins.{begunBy, beginWith}
 use Rattle.records.specs.Stored.{sightOf}
 use Rattle.isolation.proofs.KeptLaws.{Sound}
 

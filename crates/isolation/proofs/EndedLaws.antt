@@ -16,9 +16,9 @@ use Rattle.recovery.specs.Map.{Pair}
 use Rattle.recovery.specs.Recover.{mapOf}
 use Rattle.recovery.specs.Agree.{fit, Agrees}
 use Rattle.recovery.specs.Promises.{changedNumber}
-use Rattle.bitcask.specs.declared.append.Check.{Check}
-use Rattle.bitcask.specs.declared.append.Check.the-variants.{Fine, Refused}
-use Rattle.bitcask.specs.Append.{sizeAll, bytesAll, afterAll, appendAnswer}
+use Rattle.changes.specs.declared.append.Check.{Check}
+use Rattle.changes.specs.declared.append.Check.the-variants.{Fine, Refused}
+use Rattle.changes.specs.Append.{sizeAll, bytesAll, afterAll, appendAnswer}
 use Rattle.handle.specs.declared.handle.Handle.{Handle}
 use Rattle.handle.specs.Handles.{soundHandle}
 use Rattle.txn.specs.Checks.{activeKey, admitBy, orElse, openIn}
@@ -26,10 +26,11 @@ use Rattle.txn.specs.Lists.{Dels, dels-none, dels-more, checkOf}
 use Rattle.txn.proofs.CheckLaws.{not-done}
 use Rattle.txn.proofs.FitLaws.{answer-fine, dels-append}
 use Rattle.tombs.specs.Plans.{cutsOf}
-use Rattle.mvcc_end.specs.Plans.{writesOf, commitPlan, undosOf, allUsers, rollbackPlan}
+use Rattle.undo.specs.Plans.{undosOf, allUsers}
+use Rattle.mvcc_end.specs.Plans.{writesOf, commitPlan, rollbackPlan}
 use Rattle.mvcc_end.specs.Promises.{Leaves, Commits, commitAnswer, RollsBack, undoAnswer, rollbackAnswer}
 use Rattle.mvcc_end.proofs.EndLaws.{dels-done}
-use Rattle.mvcc_end.proofs.UndoAgreeLaws.{undos-dels}
+use Rattle.undo.proofs.UndoAgreeLaws.{undos-dels}
 
 -- ---- an answer 0 passed each test
 

@@ -16,10 +16,10 @@ use Rattle.recovery.specs.declared.request.Changed.{Changed}
 use Rattle.recovery.specs.declared.request.Changed.the-variants.{Refused}
 use Rattle.bitcask.specs.declared.answers.Located.{Located}
 use Rattle.bitcask.specs.declared.answers.Located.the-variants as Got
-use Rattle.bitcask.specs.Append.{appendAnswer}
+use Rattle.changes.specs.Append.{appendAnswer}
 use Rattle.handle.specs.declared.handle.Handle.{Handle}
 use Rattle.handle.specs.Handles.{handleOf}
-use Rattle.handle.specs.Payloads.{valueBytes}
+use Rattle.payloads.specs.Payloads.{valueBytes}
 use Rattle.txn.specs.Given.{begunWith}
 use Rattle.mvcc_read.specs.Promises.{Gets}
 use Rattle.mvcc_write.specs.Writes.{plan}

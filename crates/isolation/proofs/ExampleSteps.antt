@@ -28,25 +28,28 @@ use Rattle.recovery.specs.Agree.{fit}
 use Rattle.recovery.specs.Promises.{Opens, openAnswer, openTable}
 use Rattle.bitcask.specs.declared.answers.Located.{Located}
 use Rattle.bitcask.specs.declared.answers.Located.the-variants as Got
-use Rattle.bitcask.specs.Append.{sizeAll, bytesAll, afterAll, appendAnswer}
+use Rattle.changes.specs.Append.{sizeAll, bytesAll, afterAll, appendAnswer}
 use Rattle.compaction.specs.Compaction.{entriesOf}
 use Rattle.compaction.specs.Promises.{Compacts}
 use Rattle.handle.specs.declared.handle.Handle.{Handle}
 use Rattle.handle.specs.Handles.{handleOf, setOf, soundHandle, rising, sees, memb, lowestOf, firstOr}
-use Rattle.handle.specs.Payloads.{setBytes, setIn, versionsOf, setFor, versionIn, valueBytes, valueIn}
+use Rattle.payloads.specs.Payloads.{setBytes, setIn, versionsOf, setFor, versionIn, valueBytes, valueIn}
 use Rattle.tombs.specs.Cuts.{Extends}
 use Rattle.tombs.specs.Plans.{cutsOf}
 use Rattle.txn.specs.Given.{begunWith}
 use Rattle.txn.specs.Ranges.{pairsOf, begins, inside, keep}
 use Rattle.txn.specs.Looks.{liveIn}
 use Rattle.txn.specs.Checks.{openBy, ownVersion, admitBy}
-use Rattle.mvcc_begin.specs.Active.{nextAt, nextOf, activeAt, activeKeys, activeIn, versionsIn, keysOf}
+use Rattle.active.specs.Active.{nextAt, nextOf, activeAt, activeKeys, activeIn, versionsIn, keysOf}
 use Rattle.mvcc_begin.specs.Plan.{planBy, snapshotBy}
-use Rattle.mvcc_begin.specs.Begins.{snapshotRead}
-use Rattle.mvcc_begin.specs.Promises.{Begins, BeginsAsOf}
-use Rattle.mvcc_read.specs.Seen.{lastSeen, seenIn, valueSays}
+use Rattle.mvcc_past.specs.Answers.{snapshotRead}
+use Rattle.mvcc_begin.specs.Promises.{Begins}
+use Rattle.mvcc_past.specs.Promises.{BeginsAsOf}
+use Rattle.seen.specs.Seen.{lastSeen, seenIn, valueSays}
 use Rattle.mvcc_read.specs.Promises.{Gets, getAnswer}
-use Rattle.mvcc_write.specs.Writes.{plan, allowBy, sizesBy, searchBy, searched, seenBytes}
+use Rattle.mvcc_write.specs.Writes.{plan, allowBy}
+use Rattle.conflicts.specs.Conflicts.{searchBy, searched, seenBytes}
+use Rattle.lays.specs.Lays.{sizesBy}
 use Rattle.mvcc_write.specs.Promises.{Writes, writeAnswer, mayWrite}
 use Rattle.mvcc_end.specs.Plans.{commitPlan, writesOf}
 use Rattle.mvcc_end.specs.Promises.{Commits, commitAnswer, among}

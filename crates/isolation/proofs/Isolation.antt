@@ -25,15 +25,17 @@ use Rattle.bitcask.specs.declared.answers.Located.the-variants as Got
 use Rattle.bitcask.specs.declared.answers.Stepped.{Stepped}
 use Rattle.bitcask.specs.declared.answers.Stepped.the-variants as Step
 use Rattle.bitcask.specs.Ranks.{admitted}
-use Rattle.bitcask.specs.Append.{appendAnswer}
+use Rattle.changes.specs.Append.{appendAnswer}
 use Rattle.handle.specs.declared.handle.Handle.{Handle}
-use Rattle.handle.specs.Payloads.{valueBytes}
+use Rattle.payloads.specs.Payloads.{valueBytes}
 use Rattle.txn.specs.declared.begun.Begun.{Begun}
 use Rattle.txn.specs.Given.{refusedBy, begunWith}
-use Rattle.mvcc_begin.specs.declared.status.Versions.{Versions}
-use Rattle.mvcc_begin.specs.declared.status.Stated.{Stated}
-use Rattle.mvcc_begin.specs.declared.status.Stated.the-variants as Stating
-use Rattle.mvcc_begin.specs.Promises.{Begins, BeginsReading, BeginsAsOf, States}
+use Rattle.mvcc_view.specs.declared.status.Versions.{Versions}
+use Rattle.mvcc_view.specs.declared.status.Stated.{Stated}
+use Rattle.mvcc_view.specs.declared.status.Stated.the-variants as Stating
+use Rattle.mvcc_begin.specs.Promises.{Begins}
+use Rattle.mvcc_view.specs.Promises.{BeginsReading, States}
+use Rattle.mvcc_past.specs.Promises.{BeginsAsOf}
 use Rattle.mvcc_read.specs.Promises.{Gets, Resumes}
 use Rattle.mvcc_write.specs.Writes.{plan}
 use Rattle.mvcc_write.specs.Promises.{Writes}

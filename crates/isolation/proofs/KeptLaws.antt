@@ -22,12 +22,12 @@ use Rattle.recovery.specs.Recover.{mapOf}
 use Rattle.recovery.specs.Agree.{fit, Agrees}
 use Rattle.recovery.specs.Promises.{Opens}
 use Rattle.recovery.proofs.OpenLaws.{open-agrees, open-map}
-use Rattle.bitcask.specs.Append.{sizeAll}
+use Rattle.changes.specs.Append.{sizeAll}
 use Rattle.compaction.specs.Compaction.{entriesOf}
 use Rattle.compaction.specs.Promises.{Compacts, compactAnswer}
 use Rattle.handle.specs.declared.handle.Handle.{Handle}
 use Rattle.handle.specs.Handles.{setOf, soundHandle}
-use Rattle.handle.specs.Payloads.{Versions}
+use Rattle.payloads.specs.Payloads.{Versions}
 use Rattle.txn.specs.declared.begun.Begun.{Begun}
 use Rattle.history.specs.History.{After}
 use Rattle.history.specs.Records.{Map}

@@ -14,9 +14,9 @@ use Rattle.keycode.proofs.Basics.{nope}
 use Rattle.recovery.specs.declared.request.Changed.{Changed}
 use Rattle.recovery.specs.declared.request.Changed.the-variants as Change
 use Rattle.recovery.specs.Promises.{changedNumber}
-use Rattle.bitcask.specs.Append.{appendAnswer}
+use Rattle.changes.specs.Append.{appendAnswer}
 use Rattle.handle.specs.declared.handle.Handle.{Handle}
-use Rattle.handle.specs.Payloads.{valueBytes}
+use Rattle.payloads.specs.Payloads.{valueBytes}
 use Rattle.txn.specs.declared.begun.Begun.{Begun}
 use Rattle.mvcc_write.specs.Writes.{plan}
 use Rattle.mvcc_write.specs.Promises.{Writes}

@@ -9,7 +9,7 @@ use borrow.Author.Tests.{ne-eqb}
 use Rattle.keycode.specs.Tests.{pick}
 use Rattle.keys.specs.Keys.{txnActive}
 use Rattle.recovery.specs.Map.{Pair}
-use Rattle.bitcask.specs.declared.append.Check.the-variants.{Fine}
+use Rattle.changes.specs.declared.append.Check.the-variants.{Fine}
 use Rattle.handle.specs.declared.handle.Handle.{Handle}
 use Rattle.txn.specs.Looks.{liveIn}
 use Rattle.txn.specs.Checks.{activeKey, ownVersion, openBy, admitBy, openIn}

@@ -12,7 +12,7 @@ use Rattle.keys.specs.Keys.{txnActive}
 use Rattle.recovery.specs.declared.request.Changed.{Changed}
 use Rattle.recovery.specs.declared.request.Changed.the-variants as Change
 use Rattle.recovery.specs.Agree.{fit}
-use Rattle.bitcask.specs.declared.append.Check.the-variants.{Refused}
+use Rattle.changes.specs.declared.append.Check.the-variants.{Refused}
 use Rattle.bitcask.specs.declared.answers.Located.{Located}
 use Rattle.bitcask.specs.declared.answers.Located.the-variants as Got
 use Rattle.bitcask.specs.declared.answers.Stepped.{Stepped}

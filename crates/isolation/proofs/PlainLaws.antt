@@ -15,14 +15,13 @@ use Rattle.recovery.specs.declared.request.Changed.the-variants as Change
 use Rattle.recovery.specs.Map.{Pair}
 use Rattle.recovery.specs.Recover.{mapOf}
 use Rattle.recovery.specs.Agree.{fit, Agrees}
-use Rattle.bitcask.specs.declared.append.Check.the-variants.{Fine, Refused}
-use Rattle.bitcask.specs.Append.{sizeAll, afterAll}
+use Rattle.changes.specs.declared.append.Check.the-variants.{Fine, Refused}
+use Rattle.changes.specs.Append.{sizeAll, afterAll}
 use Rattle.handle.specs.declared.handle.Handle.{Handle}
 use Rattle.handle.specs.Handles.{soundHandle}
 use Rattle.txn.specs.Checks.{admitBy, openIn}
-use Rattle.mvcc_write.specs.Writes.{plainPlan}
-use Rattle.mvcc_write.specs.Promises.{SetsPlain}
-use Rattle.mvcc_write.proofs.MapLaws.{plain-grow}
+use Rattle.mvcc_plain.specs.Promises.{plainPlan, SetsPlain}
+use Rattle.mvcc_plain.proofs.MapLaws.{plain-grow}
 use Rattle.mvcc_end.specs.Plans.{commitPlan, rollbackPlan}
 use Rattle.mvcc_end.specs.Promises.{Commits, RollsBack}
 use Rattle.history.specs.Records.{Map, plainRec, put as putRecord, Sorted}

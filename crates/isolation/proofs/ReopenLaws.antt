@@ -24,21 +24,23 @@ use Rattle.recovery.specs.Promises.{changedNumber, Opens}
 use Rattle.recovery.proofs.AgreeLaws.{agrees-sound, append-long, append-map, sound-fit}
 use Rattle.recovery.proofs.OpenLaws.{opened-says, open-long}
 use Rattle.recovery.proofs.GrowLaws.{Grown, grown-opened, grown-append, grown-opens}
-use Rattle.bitcask.specs.Append.{sizeAll, bytesAll, afterAll}
+use Rattle.changes.specs.Append.{sizeAll, bytesAll, afterAll}
 use Rattle.compaction.specs.Promises.{Compacts}
 use Rattle.compaction.proofs.GrownLaws.{compacts-grown}
 use Rattle.handle.specs.Handles.{setOf}
-use Rattle.handle.specs.Payloads.{setBytes}
+use Rattle.payloads.specs.Payloads.{setBytes}
 use Rattle.txn.specs.declared.begun.Begun.{Begun}
 use Rattle.txn.specs.Lists.{Sets, Dels, Fitting, fitting-more}
 use Rattle.txn.proofs.FitLaws.{sets-fit, dels-fit, map-fits}
 use Rattle.mvcc_begin.specs.Plan.{planOf}
 use Rattle.mvcc_begin.specs.Promises.{Begins}
 use Rattle.mvcc_begin.proofs.StartLaws.{plan-sets as begin-sets}
-use Rattle.mvcc_write.specs.Promises.{Leaves}
+use Rattle.lays.specs.Lays.{Leaves}
 use Rattle.mvcc_write.proofs.WriteLaws.{plan-sets}
-use Rattle.mvcc_write.proofs.PlainLaws.{plain-sets}
-use Rattle.mvcc_write.proofs.MapLaws.{Grows, writes-grow, plain-grow}
+use Rattle.mvcc_plain.proofs.SetLaws.{plain-sets}
+use Rattle.lays.proofs.GrowLaws.{Grows}
+use Rattle.mvcc_write.proofs.MapLaws.{writes-grow}
+use Rattle.mvcc_plain.proofs.MapLaws.{plain-grow}
 use Rattle.mvcc_end.specs.Promises as End
 use Rattle.isolation.specs.World.{World, Call, Calls, usedBy, isDone, changedTo, compactedTo, Step, compacting, beginning, beginningReading, beginningAsOf, resuming, getting, setting, deleting, scanning, scanningPrefix, committing, rollingBack, gettingPlain, settingPlain, stating, counting, looking, stepping, Run, first, opened, called}
 use Rattle.isolation.proofs.EndedLaws.{Ended, commit-dels, rollback-dels, commit-ended, rollback-ended}

@@ -22,9 +22,9 @@ use Rattle.handle.specs.declared.handle.Handle.{Handle}
 use Rattle.handle.specs.Handles.{soundHandle}
 use Rattle.txn.specs.Ranges.{keep, pairsOf}
 use Rattle.txn.specs.Checks.{admitBy, openIn}
-use Rattle.mvcc_read.specs.declared.seen.Seen.{Seen}
-use Rattle.mvcc_read.specs.declared.seen.Seen.the-variants.{Hidden, Gone, Bad, Value}
-use Rattle.mvcc_read.specs.Seen.{lastSeen, locatedSeen, versionTest, valueFor}
+use Rattle.seen.specs.declared.Seen.{Seen}
+use Rattle.seen.specs.declared.Seen.the-variants.{Hidden, Gone, Bad, Value}
+use Rattle.seen.specs.Seen.{lastSeen, locatedSeen, versionTest, valueFor}
 use Rattle.mvcc_read.specs.Promises.{checked, getAnswer, Gets}
 use Rattle.mvcc_read.proofs.ShowLaws.{get-shows, get-none, get-broken}
 use Rattle.history.specs.History.{Key, Bytes, isOpen}

@@ -25,16 +25,18 @@ use Rattle.recovery.specs.Map.{Pair}
 use Rattle.recovery.specs.Recover.{mapOf}
 use Rattle.recovery.specs.Agree.{fit, Agrees}
 use Rattle.recovery.specs.Promises.{changedNumber}
-use Rattle.bitcask.specs.declared.append.Check.{Check}
-use Rattle.bitcask.specs.declared.append.Check.the-variants.{Fine, Refused}
-use Rattle.bitcask.specs.Append.{sizeAll, bytesAll, afterAll, appendAnswer}
+use Rattle.changes.specs.declared.append.Check.{Check}
+use Rattle.changes.specs.declared.append.Check.the-variants.{Fine, Refused}
+use Rattle.changes.specs.Append.{sizeAll, bytesAll, afterAll, appendAnswer}
 use Rattle.handle.specs.declared.handle.Handle.{Handle}
 use Rattle.handle.specs.Handles.{soundHandle}
-use Rattle.handle.specs.Payloads.{valueBytes}
+use Rattle.payloads.specs.Payloads.{valueBytes}
 use Rattle.txn.specs.Ranges.{pairsOf}
 use Rattle.txn.specs.Looks.{liveIn}
 use Rattle.txn.specs.Checks.{activeKey, openBy, orElse}
-use Rattle.mvcc_write.specs.Writes.{sizesBy, allowBy, searchBy, searched, plan}
+use Rattle.lays.specs.Lays.{sizesBy}
+use Rattle.mvcc_write.specs.Writes.{allowBy, plan}
+use Rattle.conflicts.specs.Conflicts.{searchBy, searched}
 use Rattle.mvcc_write.specs.Promises.{Writes, writeAnswer}
 use Rattle.mvcc_write.proofs.MapLaws.{writes-grow}
 use Rattle.history.specs.History.{Key, Bytes, Sight}

@@ -11,7 +11,7 @@ use Rattle.keycode.specs.declared.order.Order.the-variants.{Less}
 use Rattle.bitcask.specs.declared.answers.Stepped.{Stepped}
 use Rattle.bitcask.specs.declared.answers.Stepped.the-variants as Step
 use Rattle.bitcask.specs.Promises.{steppedNumber}
-use Rattle.mvcc_scan.specs.Walks.{partOf}
+use Rattle.walks.specs.Walks.{partOf}
 use Rattle.history.specs.History.{Key, Bytes}
 
 -- f says what each key shows: the answer is 1 where no key that passes shows a value, and else the places of the first that does, its

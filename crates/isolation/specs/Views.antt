@@ -16,7 +16,7 @@ use Rattle.bitcask.specs.declared.answers.Located.the-variants as Got
 use Rattle.handle.specs.declared.handle.Handle.{Handle}
 use Rattle.handle.specs.Handles.{rising}
 use Rattle.txn.specs.declared.begun.Begun.{Begun}
-use Rattle.mvcc_begin.specs.declared.status.Versions.{Versions}
+use Rattle.mvcc_view.specs.declared.status.Versions.{Versions}
 use Rattle.history.specs.History.{Key, Bytes, After, Clash, unborn, opened, status, isIn, isOpen, lastWrite, over, laid, past}
 use Rattle.isolation.specs.World.{begins, beginsReading, beginsAsOf, Calls, Gave, meaning}
 

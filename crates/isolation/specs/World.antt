@@ -17,12 +17,15 @@ use Rattle.bitcask.specs.Promises.{Gets as Looks, Steps}
 use Rattle.compaction.specs.declared.status.Counted.{Counted}
 use Rattle.compaction.specs.Promises.{Compacts, Counting}
 use Rattle.handle.specs.declared.handle.Handle.{Handle}
-use Rattle.handle.specs.Payloads.{valueBytes}
+use Rattle.payloads.specs.Payloads.{valueBytes}
 use Rattle.txn.specs.declared.begun.Begun.{Begun}
-use Rattle.mvcc_begin.specs.declared.status.Stated.{Stated}
-use Rattle.mvcc_begin.specs.Promises.{Begins, BeginsReading, BeginsAsOf, States}
-use Rattle.mvcc_read.specs.Promises.{Gets, GetsUnversioned, Resumes}
-use Rattle.mvcc_write.specs.Promises.{Writes, SetsPlain}
+use Rattle.mvcc_view.specs.declared.status.Stated.{Stated}
+use Rattle.mvcc_begin.specs.Promises.{Begins}
+use Rattle.mvcc_view.specs.Promises.{BeginsReading, States}
+use Rattle.mvcc_past.specs.Promises.{BeginsAsOf}
+use Rattle.mvcc_read.specs.Promises.{Gets, Resumes}
+use Rattle.mvcc_plain.specs.Promises.{GetsUnversioned, SetsPlain}
+use Rattle.mvcc_write.specs.Promises.{Writes}
 use Rattle.mvcc_scan.specs.Promises.{Scans, ScansPrefix}
 use Rattle.mvcc_end.specs.Promises.{Commits, RollsBack}
 use Rattle.history.specs.History.{History, After}

@@ -15,4 +15,5 @@ pub use prefix::End;
 pub use prefix::prefix_end;
 pub use refusal::Length;
 pub use refusal::Refusal;
+pub use refusal::number_of;
 pub use strings::unescape;

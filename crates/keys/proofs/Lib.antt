@@ -1,6 +1,5 @@
 -- The laws of the six keys; the crates above cite them.
 pub mod PrefixKeys
 pub mod DecodeLaws
-pub mod EncodeLaws
 pub mod KeyLaws
 pub mod KeyOrder

@@ -1,3 +1,2 @@
--- The definitions of the six keys, and what each encoding promises.
+-- The definitions of the six keys.
 pub mod Keys
-pub mod Promises

@@ -18,16 +18,16 @@ use Rattle.keydir.specs.declared.place.Found.{Found}
 use Rattle.keydir.specs.declared.place.Found.the-variants.{At, Before}
 use Rattle.keydir.specs.Slots.{slotWords, slotsOf}
 use Rattle.keydir.specs.Place.{placeOf}
-use Rattle.bitcask.specs.declared.append.Room.{Room}
-use Rattle.bitcask.specs.declared.append.Room.the-variants.{Left}
-use Rattle.bitcask.specs.declared.append.Check.{Check}
-use Rattle.bitcask.specs.declared.append.Check.the-variants.{Fine, Refused}
-use Rattle.bitcask.specs.Append.{State, appended, roomAfter, judge, wants, freshIn, sizeAll}
-use Rattle.handle.specs.declared.code.Code.{Code}
+use Rattle.changes.specs.declared.append.Room.{Room}
+use Rattle.changes.specs.declared.append.Room.the-variants.{Left}
+use Rattle.changes.specs.declared.append.Check.{Check}
+use Rattle.changes.specs.declared.append.Check.the-variants.{Fine, Refused}
+use Rattle.changes.specs.Append.{State, appended, roomAfter, judge, wants, freshIn, sizeAll}
+use Rattle.codes.specs.declared.Code.{Code}
 use Rattle.handle.specs.declared.handle.Handle.{Handle}
-use Rattle.handle.specs.Codes.{Codes}
+use Rattle.codes.specs.Codes.{Codes}
 use Rattle.handle.specs.Handles.{setOf}
-use Rattle.handle.specs.Payloads.{setBytes}
+use Rattle.payloads.specs.Payloads.{setBytes}
 use Rattle.txn.specs.Lists.{appendedAll, roomAll, freshAll, judgeAll}
 use Rattle.txn.proofs.ListLaws.{all-used, all-size, all-count, all-append, size-append}
 use Rattle.txn.proofs.FitLaws.{judge-says}

@@ -29,31 +29,31 @@ use Rattle.recovery.specs.Map.{Pair}
 use Rattle.recovery.specs.Recover.{mapOf}
 use Rattle.recovery.specs.Agree.{fit, Agrees}
 use Rattle.recovery.proofs.AgreeLaws.{fit-sound}
-use Rattle.bitcask.specs.declared.append.Room.{Room}
-use Rattle.bitcask.specs.declared.append.Room.the-variants.{Left, Full}
-use Rattle.bitcask.specs.declared.append.Check.{Check}
-use Rattle.bitcask.specs.declared.append.Check.the-variants.{Fine, Refused}
-use Rattle.bitcask.specs.Append.{judge, sizeAll, bytesAll, afterAll, appendAnswer}
+use Rattle.changes.specs.declared.append.Room.{Room}
+use Rattle.changes.specs.declared.append.Room.the-variants.{Left, Full}
+use Rattle.changes.specs.declared.append.Check.{Check}
+use Rattle.changes.specs.declared.append.Check.the-variants.{Fine, Refused}
+use Rattle.changes.specs.Append.{judge, sizeAll, bytesAll, afterAll, appendAnswer}
 use Rattle.handle.specs.declared.handle.Handle.{Handle}
-use Rattle.handle.specs.declared.payload.VersionRead.{VersionRead}
-use Rattle.handle.specs.declared.payload.VersionRead.the-variants.{Read, Bad as BadVersion}
+use Rattle.payloads.specs.declared.VersionRead.{VersionRead}
+use Rattle.payloads.specs.declared.VersionRead.the-variants.{Read, Bad as BadVersion}
 use Rattle.handle.specs.Handles.{setOf, handleOf, blankHandle, withVersion, withAll}
-use Rattle.handle.specs.Payloads.{setBytes}
+use Rattle.payloads.specs.Payloads.{setBytes}
 use Rattle.handle.proofs.HandleLaws.{made-all, made-set}
-use Rattle.handle.proofs.PayloadLaws.{set-long}
+use Rattle.payloads.proofs.PayloadLaws.{set-long}
 use Rattle.txn.specs.Lists.{appendedAll, roomAll, freshAll, Sets, sets-none, sets-more, Apart, apart-none, apart-more, checkOf, judgeAll}
 use Rattle.txn.proofs.ListLaws.{all-log, all-words, append-all, Appends}
 use Rattle.txn.proofs.FitLaws.{sets-fit, sets-judged, answer-fine}
-use Rattle.mvcc_begin.specs.declared.active.Seen.{Seen}
-use Rattle.mvcc_begin.specs.declared.active.Tally.the-variants.{Open, Bad}
+use Rattle.active.specs.declared.Seen.{Seen}
+use Rattle.active.specs.declared.Tally.the-variants.{Open, Bad}
 use Rattle.txn.specs.declared.begun.Begun.{Begun}
-use Rattle.mvcc_begin.specs.Active.{nextIn, versionsIn, keysIn, activeSlots, seenFrom, seenBy, nextAt, activeAt}
+use Rattle.active.specs.Active.{nextIn, versionsIn, keysIn, activeSlots, seenFrom, seenBy, nextAt, activeAt}
 use Rattle.txn.specs.Checks.{onFine}
 use Rattle.mvcc_begin.specs.Plan.{nextEntry, ownEntry, snapshotBy, planBy, beginPlan, planOf, startedBy, Starts}
 use Rattle.txn.specs.Given.{refusedBy}
 use Rattle.mvcc_begin.specs.Begins.{begunBy, beginBy}
 use Rattle.mvcc_begin.specs.Promises.{Begins}
-use Rattle.mvcc_begin.proofs.AgreedLaws.{next-agrees, active-agrees}
+use Rattle.active.proofs.AgreedLaws.{next-agrees, active-agrees}
 use Rattle.mvcc_begin.proofs.PlanLaws.{judged-room}
 
 -- ---- the plan sets keys that differ

@@ -1,4 +1,4 @@
--- Two results that a promise admits, where the table agrees with the log, are one. Assumes nothing.
+-- Two results that the promise admits, where the table agrees with the log, are one. Assumes nothing.
 use Prim.Native.Nat.{ℕ, zero, suc, _+_}
 use mathlib.Core.Path.{_≡_, refl, sym, ap, _∙_, subst}
 use mathlib.Core.List.{List}
@@ -6,20 +6,11 @@ use Rattle.keycode.specs.Tests.{ifDone}
 use Rattle.keycode.specs.Buffer.{put}
 use Rattle.recovery.specs.Agree.{Agrees}
 use Rattle.recovery.proofs.AgreeLaws.{agrees-unique}
-use Rattle.bitcask.specs.Append.{sizeAll, bytesAll}
+use Rattle.changes.specs.Append.{sizeAll, bytesAll}
 use Rattle.txn.specs.declared.begun.Begun.{Begun}
-use Rattle.mvcc_begin.specs.declared.status.Stated.{Stated}
+use Rattle.txn.specs.Given.{begunNumber}
 use Rattle.mvcc_begin.specs.Plan.{planOf}
-use Rattle.mvcc_begin.specs.Promises.{begunNumber, BeginsReading, Begins, BeginsAsOf, States}
-
-pub reading-unique : {log : List ℕ} {used : ℕ} {t : List ℕ} {r r′ : Begun} → Agrees log used t → BeginsReading log used t r → BeginsReading log used t r′ → r ≡ r′
-reading-unique g w w′ = w .answer g ∙ sym (w′ .answer g)
-
-pub as-of-unique : {log : List ℕ} {used : ℕ} {t : List ℕ} {v : ℕ} {r r′ : Begun} → Agrees log used t → BeginsAsOf log used t v r → BeginsAsOf log used t v r′ → r ≡ r′
-as-of-unique g w w′ = w .answer g ∙ sym (w′ .answer g)
-
-pub states-unique : {log : List ℕ} {used : ℕ} {t : List ℕ} {r r′ : Stated} → Agrees log used t → States log used t r → States log used t r′ → r ≡ r′
-states-unique g w w′ = w .answer g ∙ sym (w′ .answer g)
+use Rattle.mvcc_begin.specs.Promises.{Begins}
 
 module _ {log : List ℕ} {used : ℕ} {t : List ℕ} {r r′ : Begun} {l l′ x x′ : List ℕ} (g : Agrees log used t) (w : Begins log used t r l x) (w′ : Begins log used t r′ l′ x′) where
   pub begins-answer : r ≡ r′

@@ -1,5 +1,4 @@
--- The definitions of the calls that give a handle, in the order in which they build on each other.
-pub mod Active
+-- The definitions of begin, in the order in which they build on each other.
 pub mod Plan
 pub mod Begins
 pub mod Promises

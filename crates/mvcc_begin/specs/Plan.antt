@@ -5,12 +5,12 @@ use mathlib.Core.List.{List, [], _∷_, _++_}
 use lib.ListN.{length}
 use Rattle.keys.specs.Keys.{encode, nextVersion, txnActive, txnActiveSnapshot}
 use Rattle.entry.specs.Entry.{Entry, set}
-use Rattle.bitcask.specs.declared.append.Check.{Check}
-use Rattle.bitcask.specs.declared.append.Check.the-variants.{Fine, Refused}
-use Rattle.bitcask.specs.Append.{State, sizeAll}
+use Rattle.changes.specs.declared.append.Check.{Check}
+use Rattle.changes.specs.declared.append.Check.the-variants.{Fine, Refused}
+use Rattle.changes.specs.Append.{State, sizeAll}
 use Rattle.handle.specs.declared.handle.Handle.{Handle}
 use Rattle.handle.specs.Handles.{setOf}
-use Rattle.handle.specs.Payloads.{versionBytes, setBytes}
+use Rattle.payloads.specs.Payloads.{versionBytes, setBytes}
 use Rattle.txn.specs.Checks.{onFine}
 use Rattle.txn.specs.Lists.{appendedAll, judgeAll}
 use Rattle.txn.specs.Given.{refusedBy, begunWith}

@@ -1,25 +1,25 @@
 // What a begin appends: NextVersion, the snapshot where others are open, and its own record. First the judgement of the whole, then the
 // entries one by one. A snapshot's payload is handed in, and how many versions are open.
-use bitcask::append::Check;
-use bitcask::append::Mark;
-use bitcask::append::Room;
-use bitcask::append::append_set;
-use bitcask::append::fresh;
-use bitcask::append::judged;
-use bitcask::append::room_after;
-use handle::code::active_code;
-use handle::code::next_version_code;
-use handle::code::snapshot_code;
-use handle::payload::VERSION_BYTES;
-use handle::payload::put_version;
+use changes::append::Check;
+use changes::append::Mark;
+use changes::append::Room;
+use changes::append::append_set;
+use changes::append::fresh;
+use changes::append::judged;
+use changes::append::room_after;
+use codes::active_code;
+use codes::next_version_code;
+use codes::snapshot_code;
 use keydir::slots::SLOT_WORDS;
+use payloads::VERSION_BYTES;
+use payloads::put_version;
 ghost use mathlib.Core.Path.{_≡_};
 ghost use mathlib.Core.List.{[], _∷_};
 ghost use Prim.Native.Nat.{_+_, _-_, _*_, _^_, _≤_, _<_};
 ghost use lib.ListN.{length};
 ghost use Rattle.keycode.specs.Limits.{maxLog};
 ghost use Rattle.keydir.specs.Slots.{slotWords, slotsOf};
-ghost use Rattle.bitcask.specs.Append.{State, sizeAll};
+ghost use Rattle.changes.specs.Append.{State, sizeAll};
 ghost use Rattle.txn.specs.Lists.{appendedAll, roomAll, freshAll, judgeAll};
 ghost use Rattle.mvcc_begin.specs.Plan.{nextEntry, snapshotBy, ownEntry, planBy};
 

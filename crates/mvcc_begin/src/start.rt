@@ -1,16 +1,16 @@
 // Begin.
-use crate::active::Tally;
-use crate::active::look_round;
 use crate::plan::judge_start;
 use crate::plan::write_start;
-use bitcask::append::Check;
-use bitcask::append::Mark;
+use active::Tally;
+use active::look_round;
+use changes::append::Check;
+use changes::append::Mark;
 use handle::Handle;
-use handle::payload::SET_BYTES;
-use handle::payload::put_set;
 use keycode::Refusal;
 use keycode::limits::MAX_OPEN;
 use keydir::count;
+use payloads::SET_BYTES;
+use payloads::put_set;
 use recovery::Used;
 use recovery::request::fits;
 use txn::begun::Begun;
@@ -20,9 +20,9 @@ ghost use Prim.Native.Nat.{_*_, _-_, _^_, _≤_, _<_};
 ghost use lib.ListN.{length};
 ghost use Rattle.keycode.specs.Limits.{maxLog, maxOpen};
 ghost use Rattle.keydir.specs.Slots.{slotWords};
-ghost use Rattle.bitcask.specs.Append.{State};
+ghost use Rattle.changes.specs.Append.{State};
 ghost use Rattle.handle.specs.Handles.{setOf};
-ghost use Rattle.handle.specs.Payloads.{setBytes};
+ghost use Rattle.payloads.specs.Payloads.{setBytes};
 ghost use Rattle.mvcc_begin.specs.Plan.{planBy, Starts};
 ghost use Rattle.mvcc_begin.specs.Promises.{Begins};
 

@@ -19,14 +19,14 @@ use Rattle.recovery.specs.Recover.{mapOf}
 use Rattle.recovery.specs.Agree.{fit, Agrees}
 use Rattle.recovery.specs.Promises.{changedNumber}
 use Rattle.recovery.proofs.AgreeLaws.{Sound}
-use Rattle.bitcask.specs.declared.append.Room.{Room}
-use Rattle.bitcask.specs.declared.append.Room.the-variants.{Left, Full}
-use Rattle.bitcask.specs.declared.append.Check.{Check}
-use Rattle.bitcask.specs.declared.append.Check.the-variants.{Fine, Refused}
-use Rattle.bitcask.specs.Append.{State, sizeAll, appendAnswer}
-use Rattle.handle.specs.declared.code.Code.{Code}
+use Rattle.changes.specs.declared.append.Room.{Room}
+use Rattle.changes.specs.declared.append.Room.the-variants.{Left, Full}
+use Rattle.changes.specs.declared.append.Check.{Check}
+use Rattle.changes.specs.declared.append.Check.the-variants.{Fine, Refused}
+use Rattle.changes.specs.Append.{State, sizeAll, appendAnswer}
+use Rattle.codes.specs.declared.Code.{Code}
 use Rattle.handle.specs.declared.handle.Handle.{Handle}
-use Rattle.handle.specs.Codes.{Codes}
+use Rattle.codes.specs.Codes.{Codes}
 use Rattle.handle.specs.Handles.{soundHandle}
 use Rattle.txn.specs.declared.range.Span.{Span}
 use Rattle.txn.specs.Ranges.{slice, Prefixes, writePrefix}

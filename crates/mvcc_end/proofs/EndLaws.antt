@@ -26,10 +26,10 @@ use Rattle.recovery.specs.Recover.{mapOf}
 use Rattle.recovery.specs.Agree.{fit, Agrees}
 use Rattle.recovery.specs.Promises.{changedNumber}
 use Rattle.recovery.proofs.AgreeLaws.{Sound, fit-sound, agrees-sound, agrees-unique}
-use Rattle.bitcask.specs.declared.append.Room.the-variants.{Left, Full}
-use Rattle.bitcask.specs.declared.append.Check.{Check}
-use Rattle.bitcask.specs.declared.append.Check.the-variants.{Fine, Refused}
-use Rattle.bitcask.specs.Append.{State, sizeAll, bytesAll, afterAll, appendAnswer}
+use Rattle.changes.specs.declared.append.Room.the-variants.{Left, Full}
+use Rattle.changes.specs.declared.append.Check.{Check}
+use Rattle.changes.specs.declared.append.Check.the-variants.{Fine, Refused}
+use Rattle.changes.specs.Append.{State, sizeAll, bytesAll, afterAll, appendAnswer}
 use Rattle.handle.specs.declared.handle.Handle.{Handle}
 use Rattle.handle.specs.Handles.{soundHandle}
 use Rattle.txn.specs.Looks.{liveOf}

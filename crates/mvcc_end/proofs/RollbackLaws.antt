@@ -21,14 +21,14 @@ use Rattle.recovery.specs.Recover.{view, mapOf}
 use Rattle.recovery.specs.Agree.{fit, Agrees}
 use Rattle.recovery.specs.Promises.{changedNumber}
 use Rattle.recovery.proofs.AgreeLaws.{Sound}
-use Rattle.bitcask.specs.declared.append.Room.{Room}
-use Rattle.bitcask.specs.declared.append.Room.the-variants.{Left, Full}
-use Rattle.bitcask.specs.declared.append.Check.{Check}
-use Rattle.bitcask.specs.declared.append.Check.the-variants.{Fine, Refused}
-use Rattle.bitcask.specs.Append.{State, sizeAll, appendAnswer}
-use Rattle.handle.specs.declared.code.Code.{Code}
+use Rattle.changes.specs.declared.append.Room.{Room}
+use Rattle.changes.specs.declared.append.Room.the-variants.{Left, Full}
+use Rattle.changes.specs.declared.append.Check.{Check}
+use Rattle.changes.specs.declared.append.Check.the-variants.{Fine, Refused}
+use Rattle.changes.specs.Append.{State, sizeAll, appendAnswer}
+use Rattle.codes.specs.declared.Code.{Code}
 use Rattle.handle.specs.declared.handle.Handle.{Handle}
-use Rattle.handle.specs.Codes.{Codes}
+use Rattle.codes.specs.Codes.{Codes}
 use Rattle.handle.specs.Handles.{soundHandle}
 use Rattle.txn.specs.declared.range.Span.{Span}
 use Rattle.txn.specs.Ranges.{slice, Prefixes, writePrefix}
@@ -40,13 +40,14 @@ use Rattle.txn.proofs.FitLaws.{room-all}
 use Rattle.tombs.specs.Cuts.{delsOf}
 use Rattle.tombs.proofs.ManyLaws.{Within}
 use Rattle.tombs.proofs.PlanLaws.{range-view}
-use Rattle.mvcc_end.specs.Plans.{writesOf, allUsers, undosOf, rollbackPlan}
+use Rattle.undo.specs.Plans.{allUsers, undosOf}
+use Rattle.mvcc_end.specs.Plans.{writesOf, rollbackPlan}
 use Rattle.mvcc_end.specs.Promises.{among, RollsBack, undoAnswer, rollbackAnswer}
-use Rattle.mvcc_end.specs.Undo.{undone, roomTwice, Undoes}
+use Rattle.undo.specs.Undo.{undone, roomTwice, Undoes}
 use Rattle.mvcc_end.proofs.EndLaws.{leaves-refused, leaves-none, leaves-done, admitted, admit-map, admit-numbers, early-refused, fine-sound, early-reads, early-writes, dels-room, dels-done, dels-full, none-done}
-use Rattle.mvcc_end.proofs.UndoKeyLaws.{all-written}
-use Rattle.mvcc_end.proofs.UndoRangeLaws.{undone-keeps}
-use Rattle.mvcc_end.proofs.UndoAgreeLaws.{undos-dels, undos-size, undone-appends}
+use Rattle.undo.proofs.UndoKeyLaws.{all-written}
+use Rattle.undo.proofs.UndoRangeLaws.{undone-keeps}
+use Rattle.undo.proofs.UndoAgreeLaws.{undos-dels, undos-size, undone-appends}
 
 -- ---- the room that the code finds is the list's
 

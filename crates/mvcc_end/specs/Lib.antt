@@ -1,4 +1,3 @@
 -- The definitions of how transactions end.
 pub mod Plans
 pub mod Promises
-pub mod Undo

@@ -17,12 +17,13 @@ use Rattle.recovery.specs.declared.request.Changed.the-variants.{Done, Refused}
 use Rattle.recovery.specs.Recover.{mapOf}
 use Rattle.recovery.specs.Agree.{fit, Agrees}
 use Rattle.recovery.specs.Promises.{changedNumber}
-use Rattle.bitcask.specs.Append.{sizeAll, bytesAll, appendAnswer}
+use Rattle.changes.specs.Append.{sizeAll, bytesAll, appendAnswer}
 use Rattle.handle.specs.declared.handle.Handle.{Handle}
 use Rattle.handle.specs.Handles.{soundHandle}
 use Rattle.txn.specs.Checks.{openBy, admitBy, orElse, asked, openIn}
 use Rattle.tombs.specs.Cuts.{Extends}
-use Rattle.mvcc_end.specs.Plans.{writesOf, commitPlan, allUsers, rollbackPlan}
+use Rattle.undo.specs.Plans.{allUsers}
+use Rattle.mvcc_end.specs.Plans.{writesOf, commitPlan, rollbackPlan}
 
 -- a test of a number against a few
 unfoldable pub among : ℕ → List ℕ → Bool

@@ -1,7 +1,7 @@
 // Commit: 13, 3, 7, then a tombstone for each record of the version's writes and for its TxnActive.
-use bitcask::append::Check;
+use changes::append::Check;
+use codes::active_code;
 use handle::Handle;
-use handle::code::active_code;
 use keydir::count;
 use recovery::Changed;
 use recovery::Used;

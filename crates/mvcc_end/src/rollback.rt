@@ -1,14 +1,14 @@
 // Rollback: 13, 3, 12, 7, then for each record of the version's writes a tombstone of the version that it names and one of its own, and
 // last one for TxnActive.
-use crate::undo::undo_range;
-use bitcask::append::Check;
+use changes::append::Check;
+use codes::active_code;
 use handle::Handle;
-use handle::code::active_code;
 use keydir::count;
 use recovery::Changed;
 use recovery::Used;
 use txn::check::admit;
 use txn::range::write_range;
+use undo::undo_range;
 ghost use Rattle.mvcc_end.specs.Promises.{RollsBack};
 
 // A read-only handle has written nothing, so that it ends at once.

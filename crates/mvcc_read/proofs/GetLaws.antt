@@ -15,14 +15,14 @@ use Rattle.keydir.specs.Slots.{slotsOf}
 use Rattle.keydir.specs.Place.{countOf}
 use Rattle.recovery.specs.Agree.{fit}
 use Rattle.bitcask.specs.declared.answers.Bound.the-variants.{Included}
-use Rattle.bitcask.specs.declared.append.Check.{Check}
-use Rattle.bitcask.specs.declared.append.Check.the-variants as Check
+use Rattle.changes.specs.declared.append.Check.{Check}
+use Rattle.changes.specs.declared.append.Check.the-variants as Check
 use Rattle.bitcask.specs.declared.answers.Located.{Located}
 use Rattle.bitcask.specs.declared.answers.Located.the-variants as Got
 use Rattle.bitcask.specs.Promises.{locatedNumber}
-use Rattle.handle.specs.declared.code.Code.{Code}
+use Rattle.codes.specs.declared.Code.{Code}
 use Rattle.handle.specs.declared.handle.Handle.{Handle}
-use Rattle.handle.specs.Codes.{Codes}
+use Rattle.codes.specs.Codes.{Codes}
 use Rattle.handle.specs.Handles.{soundHandle}
 use Rattle.txn.specs.declared.range.Span.{Span}
 use Rattle.txn.specs.Ranges.{slice, Spans}
@@ -30,9 +30,9 @@ use Rattle.txn.specs.Looks.{liveOf}
 use Rattle.txn.specs.Checks.{activeKey, openBy, admitBy}
 use Rattle.txn.proofs.RangeLaws.{range-agrees, span-range}
 use Rattle.txn.proofs.CheckLaws.{open-agrees, open-never, open-ever}
-use Rattle.mvcc_read.specs.declared.seen.Seen.{Seen}
-use Rattle.mvcc_read.specs.declared.seen.Seen.the-variants.{Hidden, Gone, Bad, Value}
-use Rattle.mvcc_read.specs.Seen.{lastSeen, locatedSeen, versionSlots}
+use Rattle.seen.specs.declared.Seen.{Seen}
+use Rattle.seen.specs.declared.Seen.the-variants.{Hidden, Gone, Bad, Value}
+use Rattle.seen.specs.Seen.{lastSeen, locatedSeen, versionSlots}
 use Rattle.mvcc_read.specs.Promises.{checked, getAnswer, Gets}
 
 -- ---- the versions of a key

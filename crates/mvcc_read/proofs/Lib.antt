@@ -1,7 +1,5 @@
--- The laws of the transaction calls that append nothing.
-pub mod SeenLaws
+-- The laws of get and resume.
 pub mod GetLaws
-pub mod UnversionedLaws
 pub mod ResumeLaws
 pub mod VersionLaws
 pub mod ShowLaws

@@ -22,19 +22,19 @@ use Rattle.bitcask.specs.declared.answers.Located.{Located}
 use Rattle.bitcask.specs.declared.answers.Located.the-variants as Got
 use Rattle.bitcask.specs.Promises.{valuePart}
 use Rattle.handle.specs.declared.handle.Handle.{Handle}
-use Rattle.handle.specs.declared.payload.VersionRead.{VersionRead}
-use Rattle.handle.specs.declared.payload.VersionRead.the-variants.{Read, Bad as NoVersion}
-use Rattle.handle.specs.declared.payload.ValueRead.{ValueRead}
-use Rattle.handle.specs.declared.payload.ValueRead.the-variants as Payload
+use Rattle.payloads.specs.declared.VersionRead.{VersionRead}
+use Rattle.payloads.specs.declared.VersionRead.the-variants.{Read, Bad as NoVersion}
+use Rattle.payloads.specs.declared.ValueRead.{ValueRead}
+use Rattle.payloads.specs.declared.ValueRead.the-variants as Payload
 use Rattle.handle.specs.Handles.{sees, soundHandle}
-use Rattle.handle.specs.Payloads.{valueIn, valueAt}
+use Rattle.payloads.specs.Payloads.{valueIn, valueAt}
 use Rattle.txn.specs.Ranges.{keep, pairsOf}
 use Rattle.txn.specs.Checks.{admitBy, openIn}
 use Rattle.txn.proofs.RangeLaws.{keep-map}
 use Rattle.txn.proofs.LookLaws.{drop-take}
-use Rattle.mvcc_read.specs.declared.seen.Seen.{Seen}
-use Rattle.mvcc_read.specs.declared.seen.Seen.the-variants.{Hidden, Gone, Bad, Value}
-use Rattle.mvcc_read.specs.Seen.{versionOf, saysBy, valueSays, seenBy, seenIn, orElse, lastSeen, locatedSeen, versionTest, pairBy, pairSays, orPair, lastPair, orGone, valueFor}
+use Rattle.seen.specs.declared.Seen.{Seen}
+use Rattle.seen.specs.declared.Seen.the-variants.{Hidden, Gone, Bad, Value}
+use Rattle.seen.specs.Seen.{versionOf, saysBy, valueSays, seenBy, seenIn, orElse, lastSeen, locatedSeen, versionTest, pairBy, pairSays, orPair, lastPair, orGone, valueFor}
 use Rattle.mvcc_read.specs.Promises.{checked, getAnswer, Gets}
 
 -- ---- a walk over slots is the walk over their pairs

@@ -6,13 +6,10 @@ use Rattle.recovery.specs.Agree.{Agrees}
 use Rattle.bitcask.specs.declared.answers.Located.{Located}
 use Rattle.handle.specs.declared.handle.Handle.{Handle}
 use Rattle.txn.specs.declared.begun.Begun.{Begun}
-use Rattle.mvcc_read.specs.Promises.{Gets, GetsUnversioned, Resumes}
+use Rattle.mvcc_read.specs.Promises.{Gets, Resumes}
 
 pub gets-unique : {log : List ℕ} {used : ℕ} {t : List ℕ} {h : Handle} {key : List ℕ} {r r′ : Located} → Agrees log used t → Gets log used t h key r → Gets log used t h key r′ → r ≡ r′
 gets-unique g w w′ = w .answer g ∙ sym (w′ .answer g)
-
-pub unversioned-unique : {log : List ℕ} {used : ℕ} {t key : List ℕ} {r r′ : Located} → Agrees log used t → GetsUnversioned log used t key r → GetsUnversioned log used t key r′ → r ≡ r′
-unversioned-unique g w w′ = w .answer g ∙ sym (w′ .answer g)
 
 pub resumes-unique : {log : List ℕ} {used : ℕ} {t : List ℕ} {h : Handle} {r r′ : Begun} → Agrees log used t → Resumes log used t h r → Resumes log used t h r′ → r ≡ r′
 resumes-unique g w w′ = w .answer g ∙ sym (w′ .answer g)

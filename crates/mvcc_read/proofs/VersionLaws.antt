@@ -29,9 +29,9 @@ use Rattle.keys.proofs.KeyLaws.{Sound, decode-encode, encode-decode}
 use Rattle.keys.proofs.KeyOrder.{order-tags, order-version}
 use Rattle.bitcask.specs.declared.answers.Bound.the-variants.{Included}
 use Rattle.bitcask.specs.Ranks.{admitsLow, admitsHigh}
-use Rattle.handle.specs.declared.payload.VersionRead.the-variants as Version
+use Rattle.payloads.specs.declared.VersionRead.the-variants as Version
 use Rattle.txn.specs.Ranges.{inside}
-use Rattle.mvcc_read.specs.Seen.{versionOf, versionTest}
+use Rattle.seen.specs.Seen.{versionOf, versionTest}
 
 -- the test by the two orders that it asks for
 test-by : Order → Order → Bool

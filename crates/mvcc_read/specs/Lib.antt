@@ -1,3 +1,2 @@
--- The definitions of the transaction calls that append nothing.
-pub mod Seen
+-- The definitions of get and resume.
 pub mod Promises

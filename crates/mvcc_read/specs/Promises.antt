@@ -9,28 +9,24 @@ use lib.Dec.{leb, eqb}
 use lib.ListN.{length}
 use Rattle.keycode.specs.Tests.{pick, ifDone}
 use Rattle.keycode.specs.Limits.{maxKey}
-use Rattle.keycode.specs.declared.refusal.Refusal.the-variants.{Absent, KeyTooLong, BadRequest}
-use Rattle.keys.specs.Keys.{encode, unversioned}
+use Rattle.keycode.specs.declared.refusal.Refusal.the-variants.{KeyTooLong}
 use Rattle.keydir.specs.declared.slots.Slot.{Slot}
 use Rattle.recovery.specs.declared.request.Changed.the-variants as Change
 use Rattle.recovery.specs.Recover.{recovered}
 use Rattle.recovery.specs.Agree.{fit, Agrees}
 use Rattle.recovery.specs.Promises.{changedNumber}
-use Rattle.bitcask.specs.declared.append.Check.{Check}
-use Rattle.bitcask.specs.declared.append.Check.the-variants as Check
+use Rattle.changes.specs.declared.append.Check.{Check}
+use Rattle.changes.specs.declared.append.Check.the-variants as Check
 use Rattle.bitcask.specs.declared.answers.Located.{Located}
 use Rattle.bitcask.specs.declared.answers.Located.the-variants as Got
-use Rattle.bitcask.specs.Promises.{locatedNumber, valuePart}
+use Rattle.bitcask.specs.Promises.{locatedNumber}
 use Rattle.handle.specs.declared.handle.Handle.{Handle}
 use Rattle.handle.specs.Handles.{soundHandle, blankHandle}
-use Rattle.txn.specs.declared.look.Slotted.{Slotted}
-use Rattle.txn.specs.declared.look.Slotted.the-variants as Slots
 use Rattle.txn.specs.Ranges.{keep}
-use Rattle.txn.specs.Looks.{slotIn}
 use Rattle.txn.specs.Checks.{openBy, admitBy, asked, openIn}
 use Rattle.txn.specs.declared.begun.Begun.{Begun}
 use Rattle.txn.specs.Given.{refusedBy, begunWith}
-use Rattle.mvcc_read.specs.Seen.{lastSeen, locatedSeen, versionTest}
+use Rattle.seen.specs.Seen.{lastSeen, locatedSeen, versionTest}
 
 -- ---- get
 
@@ -52,23 +48,6 @@ pub record Gets (log : List ℕ) (used : ℕ) (t : List ℕ) (h : Handle) (key :
   -- agreed
   pub answer : Agrees log used t
       → r ≡ getAnswer (fit (length log) used (length t)) (soundHandle h) (openIn log used h) h log key (keep (versionTest key (h .version)) log (recovered log used))
-
--- ---- the unversioned get
-
-abbrev pub slotLocated : Slotted → Located
-slotLocated (Slots.At s) = Got.At (valuePart s)
-slotLocated Slots.None = Got.Refused Absent
-
--- 13, 4, and then the place of the key's value, or 1
-unfoldable pub unversionedAnswer : Bool → List ℕ → Slotted → Located
-unversionedAnswer fits key s = pick fits (pick (leb (length key) maxKey) (slotLocated s) (Got.Refused KeyTooLong)) (Got.Refused BadRequest)
-
-pub record GetsUnversioned (log : List ℕ) (used : ℕ) (t key : List ℕ) (r : Located) : Type 0 where
-  -- request
-  pub bad : eqb (locatedNumber r) 13 ≡ not (fit (length log) used (length t))
-  pub long : eqb (locatedNumber r) 4 ≡ pick (fit (length log) used (length t)) (not (leb (length key) maxKey)) false
-  -- agreed
-  pub answer : Agrees log used t → r ≡ unversionedAnswer (fit (length log) used (length t)) key (slotIn log (encode (unversioned key)) (recovered log used))
 
 -- ---- resume
 

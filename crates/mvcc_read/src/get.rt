@@ -1,15 +1,15 @@
 // Get: the place of the value of the highest version that a handle sees.
-use crate::seen::Seen;
-use crate::seen::seek;
 use bitcask::answers::Bound;
 use bitcask::answers::Located;
-use bitcask::append::Check;
+use changes::append::Check;
+use codes::version_code;
 use handle::Handle;
-use handle::code::version_code;
 use keycode::Refusal;
 use keycode::limits::MAX_KEY;
 use keydir::count;
 use recovery::Used;
+use seen::Seen;
+use seen::seek;
 use txn::check::admit;
 use txn::range::range;
 ghost use mathlib.Core.Path.{_≡_};
@@ -18,7 +18,7 @@ ghost use lib.ListN.{length};
 ghost use Rattle.keycode.specs.Limits.{maxKey};
 ghost use Rattle.keydir.specs.Slots.{slotsOf};
 ghost use Rattle.keydir.specs.Place.{countOf};
-ghost use Rattle.mvcc_read.specs.Seen.{lastSeen, locatedSeen, versionSlots};
+ghost use Rattle.seen.specs.Seen.{lastSeen, locatedSeen, versionSlots};
 ghost use Rattle.mvcc_read.specs.Promises.{Gets};
 
 // What the versions of a key up to the handle's own say.

@@ -1,5 +1,5 @@
 // Resume: whether a handle's transaction goes on, and the handle back.
-use bitcask::append::Check;
+use changes::append::Check;
 use handle::Handle;
 use recovery::Changed;
 use recovery::Used;

@@ -16,12 +16,12 @@ use Rattle.bitcask.specs.declared.answers.Bound.{Bound}
 use Rattle.bitcask.specs.declared.answers.Bound.the-variants.{Included, Excluded}
 use Rattle.bitcask.specs.declared.answers.Stepped.{Stepped}
 use Rattle.bitcask.specs.Ranks.{fromBound, uptoBound}
-use Rattle.handle.specs.declared.code.Code.{Code}
+use Rattle.codes.specs.declared.Code.{Code}
 use Rattle.handle.specs.declared.handle.Handle.{Handle}
-use Rattle.handle.specs.Codes.{Codes, keyBytes}
+use Rattle.codes.specs.Codes.{Codes, keyBytes}
 use Rattle.txn.specs.declared.range.Span.{Span}
 use Rattle.txn.specs.Ranges.{slice, Prefixes}
-use Rattle.mvcc_scan.specs.Walks.{stepIn}
+use Rattle.walks.specs.Walks.{stepIn}
 use Rattle.mvcc_scan.specs.Bounds.{keyFits, lastFits, keysFit, prefixFits, lowKind, lowBytes, highKind, highBytes, lastFrom, pastSlots, scanSlots, prefixSlots}
 
 -- ---- one bound

@@ -19,7 +19,7 @@ use Rattle.recovery.specs.Map.{Pair as MapPair}
 use Rattle.recovery.specs.Recover.{view}
 use Rattle.handle.specs.declared.handle.Handle.{Handle}
 use Rattle.txn.proofs.RangeLaws.{same-tests}
-use Rattle.mvcc_scan.specs.Walks.{isEqual}
+use Rattle.walks.specs.Walks.{isEqual}
 use Rattle.mvcc_scan.specs.Steps.{Stamp, stampOf, Given, Sight, hidden, gone, bad, shows, sightOf, sameUser, isOf, anyOf, sightFor, orSight, highest, cleanBy, cleanTo, stepBy, stepOn, stepPairs}
 use Rattle.mvcc_scan.proofs.NameLaws.{Spelt, spelt, users-rise}
 

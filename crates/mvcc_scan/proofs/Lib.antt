@@ -1,6 +1,4 @@
 -- The laws of a transaction's scan steps.
-pub mod RowLaws
-pub mod WalkLaws
 pub mod BoundLaws
 pub mod QuietLaws
 pub mod AgreedLaws

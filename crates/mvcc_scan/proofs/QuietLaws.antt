@@ -12,14 +12,14 @@ use Rattle.bitcask.specs.declared.answers.Stepped.{Stepped}
 use Rattle.bitcask.specs.declared.answers.Stepped.the-variants as Step
 use Rattle.bitcask.specs.Promises.{steppedNumber}
 use Rattle.handle.specs.declared.handle.Handle.{Handle}
-use Rattle.mvcc_scan.specs.declared.rows.Held.{Held}
-use Rattle.mvcc_scan.specs.declared.rows.Held.the-variants.{Hidden, Gone, Bad, Pair}
-use Rattle.mvcc_scan.specs.declared.rows.Row.{Row}
-use Rattle.mvcc_scan.specs.declared.rows.Row.the-variants.{Junk, Good}
-use Rattle.mvcc_scan.specs.declared.walk.Walk.{Walk}
-use Rattle.mvcc_scan.specs.declared.walk.Walk.the-variants.{Start, Within, Broken, Over}
-use Rattle.mvcc_scan.specs.Rows.{rowIn}
-use Rattle.mvcc_scan.specs.Walks.{sameString, laterHeld, heldAnswer, closedBy, spoiltBy, nextWalk, endedBy, walkIn, stepIn}
+use Rattle.walks.specs.declared.rows.Held.{Held}
+use Rattle.walks.specs.declared.rows.Held.the-variants.{Hidden, Gone, Bad, Pair}
+use Rattle.walks.specs.declared.rows.Row.{Row}
+use Rattle.walks.specs.declared.rows.Row.the-variants.{Junk, Good}
+use Rattle.walks.specs.declared.walk.Walk.{Walk}
+use Rattle.walks.specs.declared.walk.Walk.the-variants.{Start, Within, Broken, Over}
+use Rattle.walks.specs.Rows.{rowIn}
+use Rattle.walks.specs.Walks.{sameString, laterHeld, heldAnswer, closedBy, spoiltBy, nextWalk, endedBy, walkIn, stepIn}
 
 pub data Answers : Stepped → Type 0 where
   gives : (k v : Part) → Answers (Step.Next k v)

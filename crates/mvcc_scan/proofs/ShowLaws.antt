@@ -22,8 +22,8 @@ use Rattle.recovery.specs.Recover.{recovered, view, mapOf}
 use Rattle.recovery.specs.Agree.{fit, Agrees}
 use Rattle.recovery.proofs.ViewLaws.{pairOf}
 use Rattle.recovery.proofs.FoldLaws.{recovered-sorted}
-use Rattle.bitcask.specs.declared.append.Check.{Check}
-use Rattle.bitcask.specs.declared.append.Check.the-variants as Check
+use Rattle.changes.specs.declared.append.Check.{Check}
+use Rattle.changes.specs.declared.append.Check.the-variants as Check
 use Rattle.bitcask.specs.declared.answers.Stepped.{Stepped}
 use Rattle.bitcask.specs.declared.answers.Stepped.the-variants as Step
 use Rattle.bitcask.specs.Promises.{steppedNumber}
@@ -32,13 +32,13 @@ use Rattle.handle.specs.Handles.{soundHandle}
 use Rattle.txn.specs.Ranges.{keep, pairsOf}
 use Rattle.txn.specs.Checks.{admitBy, openIn, checkNumber, onFine}
 use Rattle.txn.proofs.RangeLaws.{keep-map, keep-sorted}
-use Rattle.mvcc_scan.specs.declared.rows.Held.{Held}
-use Rattle.mvcc_scan.specs.declared.rows.Held.the-variants.{Hidden, Gone, Bad, Pair}
-use Rattle.mvcc_scan.specs.declared.rows.Row.{Row}
-use Rattle.mvcc_scan.specs.declared.walk.Walk.{Walk}
-use Rattle.mvcc_scan.specs.declared.walk.Walk.the-variants.{Start, Within, Broken, Over}
-use Rattle.mvcc_scan.specs.Rows.{rowIn}
-use Rattle.mvcc_scan.specs.Walks.{partOf, sameString, laterHeld, heldAnswer, closedBy, spoiltBy, withinBy, brokenBy, openedBy, endedBy, walkIn, stepIn}
+use Rattle.walks.specs.declared.rows.Held.{Held}
+use Rattle.walks.specs.declared.rows.Held.the-variants.{Hidden, Gone, Bad, Pair}
+use Rattle.walks.specs.declared.rows.Row.{Row}
+use Rattle.walks.specs.declared.walk.Walk.{Walk}
+use Rattle.walks.specs.declared.walk.Walk.the-variants.{Start, Within, Broken, Over}
+use Rattle.walks.specs.Rows.{rowIn}
+use Rattle.walks.specs.Walks.{partOf, sameString, laterHeld, heldAnswer, closedBy, spoiltBy, withinBy, brokenBy, openedBy, endedBy, walkIn, stepIn}
 use Rattle.mvcc_scan.specs.Promises.{checkedStep, keysBy, scanAnswer, Scanning}
 use Rattle.mvcc_scan.specs.Steps.{Stamp, stampOf, Given, Sight, hidden, gone, bad, shows, sightOf, sameUser, isOf, anyOf, orSight, highest, cleanTo, stepBy, stepOn, stepPairs, stepNumber, GivenAt, Shows}
 use Rattle.mvcc_scan.proofs.QuietLaws.{Answers, gives, ends, breaks, step-answers}

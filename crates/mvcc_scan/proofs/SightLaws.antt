@@ -20,17 +20,17 @@ use Rattle.keydir.specs.declared.slots.Slot.{Slot}
 use Rattle.keydir.specs.Slots.{keyOf, valueOf}
 use Rattle.bitcask.specs.Promises.{keyPart, valuePart}
 use Rattle.handle.specs.declared.handle.Handle.{Handle}
-use Rattle.handle.specs.declared.payload.ValueRead.{ValueRead}
-use Rattle.handle.specs.declared.payload.ValueRead.the-variants as Payload
+use Rattle.payloads.specs.declared.ValueRead.{ValueRead}
+use Rattle.payloads.specs.declared.ValueRead.the-variants as Payload
 use Rattle.handle.specs.Handles.{sees}
-use Rattle.handle.specs.Payloads.{valueIn, valueAt}
+use Rattle.payloads.specs.Payloads.{valueIn, valueAt}
 use Rattle.txn.proofs.LookLaws.{drop-take}
-use Rattle.mvcc_scan.specs.declared.rows.Held.{Held}
-use Rattle.mvcc_scan.specs.declared.rows.Held.the-variants.{Hidden, Gone, Bad, Pair}
-use Rattle.mvcc_scan.specs.declared.rows.Row.{Row}
-use Rattle.mvcc_scan.specs.declared.rows.Row.the-variants.{Junk, Good}
-use Rattle.mvcc_scan.specs.Rows.{stringPart, heldBy, valueHeld, heldIn, rowBy, rowIn}
-use Rattle.mvcc_scan.specs.Walks.{partOf}
+use Rattle.walks.specs.declared.rows.Held.{Held}
+use Rattle.walks.specs.declared.rows.Held.the-variants.{Hidden, Gone, Bad, Pair}
+use Rattle.walks.specs.declared.rows.Row.{Row}
+use Rattle.walks.specs.declared.rows.Row.the-variants.{Junk, Good}
+use Rattle.walks.specs.Rows.{stringPart, heldBy, valueHeld, heldIn, rowBy, rowIn}
+use Rattle.walks.specs.Walks.{partOf}
 use Rattle.mvcc_scan.specs.Steps.{Stamp, stampBy, stampOf, Given, Sight, hidden, gone, bad, shows, sightBy, sightOf}
 use Rattle.mvcc_scan.proofs.NameLaws.{Named, version-named, named-part, named-user}
 

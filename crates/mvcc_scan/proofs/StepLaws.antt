@@ -14,8 +14,8 @@ use Rattle.keydir.specs.Slots.{slotsOf}
 use Rattle.keydir.specs.Place.{countOf}
 use Rattle.recovery.specs.Recover.{recovered}
 use Rattle.recovery.specs.Agree.{fit, Agrees}
-use Rattle.bitcask.specs.declared.append.Check.{Check}
-use Rattle.bitcask.specs.declared.append.Check.the-variants as Check
+use Rattle.changes.specs.declared.append.Check.{Check}
+use Rattle.changes.specs.declared.append.Check.the-variants as Check
 use Rattle.bitcask.specs.declared.answers.Stepped.{Stepped}
 use Rattle.bitcask.specs.declared.answers.Stepped.the-variants as Step
 use Rattle.bitcask.specs.Promises.{steppedNumber}
@@ -25,7 +25,7 @@ use Rattle.txn.specs.Ranges.{keep}
 use Rattle.txn.specs.Looks.{liveOf}
 use Rattle.txn.specs.Checks.{activeKey, openBy, admitBy}
 use Rattle.txn.proofs.CheckLaws.{open-agrees, open-never, open-ever, behind, behind-bad, behind-never, behind-ever, behind-long}
-use Rattle.mvcc_scan.specs.Walks.{stepIn}
+use Rattle.walks.specs.Walks.{stepIn}
 use Rattle.mvcc_scan.specs.Promises.{checkedStep, keysBy, scanAnswer, Scanning}
 use Rattle.mvcc_scan.proofs.QuietLaws.{step-answers, answers-quiet}
 

@@ -10,8 +10,8 @@ use Rattle.keycode.specs.Tests.{pick}
 use Rattle.keycode.specs.declared.refusal.Refusal.the-variants.{KeyTooLong}
 use Rattle.recovery.specs.Recover.{recovered}
 use Rattle.recovery.specs.Agree.{fit, Agrees}
-use Rattle.bitcask.specs.declared.append.Check.{Check}
-use Rattle.bitcask.specs.declared.append.Check.the-variants as Check
+use Rattle.changes.specs.declared.append.Check.{Check}
+use Rattle.changes.specs.declared.append.Check.the-variants as Check
 use Rattle.bitcask.specs.declared.answers.Bound.{Bound}
 use Rattle.bitcask.specs.declared.answers.Stepped.{Stepped}
 use Rattle.bitcask.specs.declared.answers.Stepped.the-variants as Step
@@ -20,7 +20,7 @@ use Rattle.handle.specs.declared.handle.Handle.{Handle}
 use Rattle.handle.specs.Handles.{soundHandle}
 use Rattle.txn.specs.Ranges.{keep}
 use Rattle.txn.specs.Checks.{openBy, admitBy, asked, openIn}
-use Rattle.mvcc_scan.specs.Walks.{stepIn}
+use Rattle.walks.specs.Walks.{stepIn}
 use Rattle.mvcc_scan.specs.Bounds.{keysFit, prefixFits, scanned, prefixed}
 
 abbrev pub checkedStep : Check → Stepped → Stepped

@@ -20,15 +20,15 @@ use Rattle.keys.specs.declared.keys.Key.the-variants.{NextVersion, TxnActive, T
 use Rattle.keys.specs.declared.keys.Decoded.{Decoded}
 use Rattle.keys.specs.declared.keys.Decoded.the-variants.{Whole, Refused}
 use Rattle.recovery.specs.Map.{Pair}
-use Rattle.bitcask.specs.declared.append.Check.{Check}
+use Rattle.changes.specs.declared.append.Check.{Check}
 use Rattle.bitcask.specs.declared.answers.Stepped.{Stepped}
 use Rattle.bitcask.specs.declared.answers.Stepped.the-variants as Step
 use Rattle.bitcask.specs.Promises.{steppedNumber}
 use Rattle.handle.specs.declared.handle.Handle.{Handle}
 use Rattle.handle.specs.Handles.{sees}
-use Rattle.handle.specs.Payloads.{valueIn, valueAt}
+use Rattle.payloads.specs.Payloads.{valueIn, valueAt}
 use Rattle.txn.specs.Checks.{checkNumber, onFine}
-use Rattle.mvcc_scan.specs.Walks.{isEqual, partOf}
+use Rattle.walks.specs.Walks.{isEqual, partOf}
 
 -- ---- one pair
 

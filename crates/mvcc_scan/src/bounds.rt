@@ -1,22 +1,22 @@
 // Bounds of user keys as bounds of Version keys, and a scan's step between them.
-use crate::walk::step_in;
 use bitcask::answers::Bound;
 use bitcask::answers::Stepped;
 use bitcask::rank::from_bound;
 use bitcask::rank::upto_bound;
-use handle::Code;
+use codes::Code;
+use codes::version_code;
 use handle::Handle;
-use handle::code::version_code;
 use keycode::limits::KEY_BYTES;
+use walks::walk::step_in;
 ghost use mathlib.Core.Path.{_≡_};
 ghost use mathlib.Core.Bool.{true};
 ghost use Prim.Native.Nat.{_*_, _≤_, max};
 ghost use lib.ListN.{length};
 ghost use Rattle.keydir.specs.Slots.{slotWords, slotsOf};
 ghost use Rattle.bitcask.specs.Ranks.{fromBound, uptoBound};
-ghost use Rattle.handle.specs.Codes.{Codes};
+ghost use Rattle.codes.specs.Codes.{Codes};
 ghost use Rattle.txn.specs.Ranges.{slice};
-ghost use Rattle.mvcc_scan.specs.Walks.{stepIn};
+ghost use Rattle.walks.specs.Walks.{stepIn};
 ghost use Rattle.mvcc_scan.specs.Bounds.{keyFits, lastFits, keysFit, lowKind, lowBytes, highKind, highBytes, lastFrom, scanSlots};
 
 // The highest version that a key can have.

@@ -1,6 +1,6 @@
 // The checks that come first in a scan step: 13, 3, and 4 of the keys that it is handed.
 use bitcask::answers::Bound;
-use bitcask::append::Check;
+use changes::append::Check;
 use handle::Handle;
 use keycode::Refusal;
 use keycode::limits::MAX_KEY;

@@ -2,6 +2,4 @@
 pub mod bounds;
 pub mod checks;
 pub mod prefix;
-pub mod rows;
 pub mod scan;
-pub mod walk;

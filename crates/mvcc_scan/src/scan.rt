@@ -4,7 +4,7 @@ use crate::checks::admit_keys;
 use crate::checks::keys_fit;
 use bitcask::answers::Bound;
 use bitcask::answers::Stepped;
-use bitcask::append::Check;
+use changes::append::Check;
 use handle::Handle;
 use keydir::count;
 use recovery::Used;

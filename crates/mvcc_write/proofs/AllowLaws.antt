@@ -1,38 +1,23 @@
 -- The checks before the search: what the code answers, and the numbers of a request. Assumes nothing.
-use Prim.Native.Nat.{ℕ, _<_, _≤_}
+use Prim.Native.Nat.{ℕ}
 use mathlib.Core.Path.{_≡_, refl, sym, _∙_}
 use mathlib.Core.Bool.{Bool, true, false}
-use lib.Dec.{leb}
-use borrow.Author.Tests.{le-leb, lt-leb}
 use Rattle.keycode.specs.Tests.{pick}
-use Rattle.keycode.specs.Limits.{maxKey, maxValue}
 use Rattle.keycode.specs.Refusals.{numberOf}
 use Rattle.keycode.specs.declared.refusal.Refusal.{Refusal}
 use Rattle.keycode.specs.declared.refusal.Refusal.the-variants.{ReadOnly, NotOpen, KeyTooLong, ValueTooLong, BadRequest}
 use Rattle.keycode.proofs.Basics.{nope}
-use Rattle.bitcask.specs.declared.append.Check.{Check}
-use Rattle.bitcask.specs.declared.append.Check.the-variants.{Fine, Refused}
+use Rattle.changes.specs.declared.append.Check.{Check}
+use Rattle.changes.specs.declared.append.Check.the-variants.{Fine, Refused}
 use Rattle.handle.specs.declared.handle.Handle.{Handle}
 use Rattle.txn.specs.Checks.{ownVersion, openBy, admitBy}
 use Rattle.txn.proofs.CheckLaws.{open-read, admit-fine}
-use Rattle.mvcc_write.specs.Writes.{sizesBy, allowBy}
+use Rattle.lays.specs.Lays.{sizesBy}
+use Rattle.mvcc_write.specs.Writes.{allowBy}
 use Rattle.mvcc_write.specs.Promises.{mayWrite, Early}
-use Rattle.mvcc_write.proofs.LayLaws.{Late, late-done, late-unseen, late-log, late-table, late-bad}
+use Rattle.lays.proofs.LayLaws.{Late, late-done, late-unseen, late-log, late-table, late-bad}
 
 -- ---- what the code answers
-
-module _ (k v : ℕ) where
-  pub size-key : maxKey < k → Refused KeyTooLong ≡ sizesBy (leb k maxKey) (leb v maxValue)
-  unfolding sizesBy
-  size-key h = rw (lt-leb k maxKey h)
-
-  pub size-value : k ≤ maxKey → maxValue < v → Refused ValueTooLong ≡ sizesBy (leb k maxKey) (leb v maxValue)
-  unfolding sizesBy
-  size-value h g = rw (le-leb k maxKey h, lt-leb v maxValue g)
-
-  pub size-fine : k ≤ maxKey → v ≤ maxValue → Fine ≡ sizesBy (leb k maxKey) (leb v maxValue)
-  unfolding sizesBy
-  size-fine h g = rw (le-leb k maxKey h, le-leb v maxValue g)
 
 -- a read-only handle is open, so that 3 is not its answer
 refused-by : (fits sound reads active short small : Bool) (r : Refusal) → (reads ≡ true → active ≡ true) → admitBy fits sound active ≡ Refused r → Refused r ≡ allowBy fits sound reads active short small

@@ -1,95 +1,25 @@
--- What a write or an unversioned set that is done makes of the map: the map with its entries, and the used length behind them. The crates
--- above read the store by it. Assumes nothing.
-use Prim.Native.Nat.{ℕ, _+_, _/_}
-use mathlib.Core.Path.{_≡_, refl, sym, ap, _∙_}
-use mathlib.Core.Bool.{Bool, true, false}
+-- What a write that is done makes of the map. The crates above read the store by it. Assumes nothing.
+use Prim.Native.Nat.{ℕ}
+use mathlib.Core.Path.{_≡_}
 use mathlib.Core.List.{List}
 use lib.Dec.{leb}
 use lib.ListN.{length}
-use Rattle.keycode.specs.Tests.{pick, ifDone}
 use Rattle.keycode.specs.Limits.{maxKey, maxValue}
-use Rattle.keycode.specs.Buffer.{put}
-use Rattle.keycode.specs.declared.refusal.Refusal.the-variants.{BadRequest}
-use Rattle.keycode.proofs.Basics.{nope}
-use Rattle.entry.specs.Entry.{Entry}
-use Rattle.keydir.specs.Slots.{slotWords}
-use Rattle.keydir.specs.Place.{countOf}
 use Rattle.recovery.specs.declared.request.Changed.{Changed}
-use Rattle.recovery.specs.declared.request.Changed.the-variants as Change
 use Rattle.recovery.specs.Recover.{mapOf}
-use Rattle.recovery.specs.Map.{Pair}
 use Rattle.recovery.specs.Agree.{fit, Agrees}
 use Rattle.recovery.specs.Promises.{changedNumber}
-use Rattle.bitcask.specs.declared.append.Check.{Check}
-use Rattle.bitcask.specs.declared.append.Check.the-variants.{Fine, Refused}
-use Rattle.bitcask.specs.Append.{sizeAll, bytesAll, afterAll, appendAnswer}
+use Rattle.changes.specs.Append.{appendAnswer}
 use Rattle.handle.specs.declared.handle.Handle.{Handle}
 use Rattle.handle.specs.Handles.{soundHandle}
 use Rattle.txn.specs.Ranges.{pairsOf}
 use Rattle.txn.specs.Looks.{liveIn}
-use Rattle.txn.specs.Checks.{activeKey, openBy, orElse}
-use Rattle.txn.specs.Lists.{Sets, checkOf}
-use Rattle.txn.proofs.CheckLaws.{not-done}
-use Rattle.txn.proofs.ListLaws.{append-all}
-use Rattle.txn.proofs.FitLaws.{sets-fit, answer-fine}
-use Rattle.mvcc_write.specs.Writes.{sizesBy, allowBy, searchBy, searched, plan, plainPlan}
-use Rattle.mvcc_write.specs.Promises.{Leaves, Writes, SetsPlain, writeAnswer, plainAnswer}
-use Rattle.mvcc_write.proofs.LayLaws.{answer-by}
+use Rattle.txn.specs.Checks.{activeKey, openBy}
+use Rattle.lays.proofs.GrowLaws.{Grows, grows, else-both}
+use Rattle.mvcc_write.specs.Writes.{allowBy, plan}
+use Rattle.conflicts.specs.Conflicts.{searchBy, searched}
+use Rattle.mvcc_write.specs.Promises.{Writes, writeAnswer}
 use Rattle.mvcc_write.proofs.WriteLaws.{plan-sets}
-use Rattle.mvcc_write.proofs.PlainLaws.{plain-sets}
-
--- ---- an answer with number 0
-
--- passed each test before
-else-done : (c : Check) (x : Changed) → changedNumber (orElse c x) ≡ 0 → orElse c x ≡ x
-else-done Fine x z = refl
-else-done (Refused r) x z = absurd (not-done r z)
-
-fit-done : (b : Bool) (x : Changed) → changedNumber (pick b x (Change.Refused BadRequest)) ≡ 0 → pick b x (Change.Refused BadRequest) ≡ x
-fit-done true x z = refl
-fit-done false x z = nope (cc)
-
-done-fine : (x : Changed) → changedNumber x ≡ 0 → checkOf x ≡ Fine
-done-fine (Change.Done u) z = refl
-done-fine (Change.Refused r) z = absurd (not-done r z)
-
--- both tests in a row
-else-both : (a b : Check) (x r : Changed) → r ≡ orElse a (orElse b x) → changedNumber r ≡ 0 → r ≡ x
-else-both a b x r e z =
-    let p = else-done a (orElse b x) (sym (ap changedNumber e) ∙ z) in
-    e ∙ p ∙ else-done b x (sym (ap changedNumber (e ∙ p)) ∙ z)
-
-fit-both : (f : Bool) (a : Check) (x r : Changed) → r ≡ pick f (orElse a x) (Change.Refused BadRequest) → changedNumber r ≡ 0 → r ≡ x
-fit-both f a x r e z =
-    let p = fit-done f (orElse a x) (sym (ap changedNumber e) ∙ z) in
-    e ∙ p ∙ else-done a x (sym (ap changedNumber (e ∙ p)) ∙ z)
-
--- ---- the map then
-
-map-at : {l l′ : List ℕ} {u u′ : ℕ} {m : List Pair} → l ≡ l′ → u ≡ u′ → mapOf l u ≡ m → mapOf l′ u′ ≡ m
-map-at p q e = rw (← p, ← q) e
-
--- what a call that appended its entries has made
-pub record Grows (log : List ℕ) (used : ℕ) (es : List Entry) (r : Changed) (log′ : List ℕ) : Type 0 where
-  pub ends : r ≡ Change.Done (record { len = used + sizeAll es })
-  pub map : mapOf log′ (used + sizeAll es) ≡ afterAll es (mapOf log used)
-
-module _ {log : List ℕ} {used : ℕ} {t : List ℕ} {es : List Entry} {r : Changed} {log′ t′ : List ℕ} (g : Agrees log used t) (sets : Sets es) (w : Leaves log used t es r log′ t′)
-    (z : changedNumber r ≡ 0) (e : r ≡ appendAnswer log used (length t) es) where
-  fine : checkOf (appendAnswer log used (length t) es) ≡ Fine
-  fine = done-fine (appendAnswer log used (length t) es) (sym (ap changedNumber e) ∙ z)
-
-  laid : put log used (bytesAll es) ≡ log′
-  laid = sym (w .bytes ∙ ap (λ (n : ℕ). ifDone n (put log used (bytesAll es)) log) z)
-
-  grows : Grows log used es r log′
-  grows =
-      let a = answer-fine log used (length t) es fine in
-      let s = append-all log used t es g (a .0) (sets-fit sets (mapOf log used) (length t / slotWords) (a .1)) (countOf t) refl in
-      record {
-        ends = e ∙ answer-by log used (length t) es ∙ ap (λ (c : Check). orElse c (Change.Done (record { len = used + sizeAll es }))) fine;
-        map = map-at (s .bytes ∙ laid) (s .ends) (s .map);
-      }
 
 pub writes-grow : {log : List ℕ} {used : ℕ} {t : List ℕ} {h : Handle} {key payload : List ℕ} {size : ℕ} {r : Changed} {log′ t′ : List ℕ} → Agrees log used t
     → Writes log used t h key payload size r log′ t′ → changedNumber r ≡ 0 → Grows log used (plan (h .version) key payload) r log′
@@ -99,10 +29,3 @@ writes-grow {log} {used} {t} {h} {key} {payload} {size} {r} g w z =
     (else-both
     (allowBy (fit (length log) used (length t)) (soundHandle h) (h .«read_only») (openBy h (liveIn (activeKey h) (mapOf log used))) (leb (length key) maxKey) (leb size maxValue))
     (searchBy h (pairsOf (searched h key) (mapOf log used))) (appendAnswer log used (length t) (plan (h .version) key payload)) r (w .answer g) z)
-
-pub plain-grow : {log : List ℕ} {used : ℕ} {t key value : List ℕ} {r : Changed} {log′ t′ : List ℕ} → Agrees log used t → SetsPlain log used t key value r log′ t′ → changedNumber r ≡ 0
-    → Grows log used (plainPlan key value) r log′
-unfolding plainAnswer
-plain-grow {log} {used} {t} {key} {value} {r} g w z =
-    grows g (plain-sets key value) (w .leaves) z
-    (fit-both (fit (length log) used (length t)) (sizesBy (leb (length key) maxKey) (leb (length value) maxValue)) (appendAnswer log used (length t) (plainPlan key value)) r (w .answer g) z)

@@ -4,11 +4,12 @@ use mathlib.Core.Path.{_≡_, sym, _∙_}
 use mathlib.Core.List.{List, _∷_}
 use native.Mathlib.Omega.{arith}
 use lib.Dec.{leb}
-use lib.ListN.{length}
+use lib.ListN.{length, take}
 use borrow.Author.Tests.{leb-true}
 use Rattle.keycode.specs.Limits.{maxKey, maxValue}
 use Rattle.keycode.specs.Refusals.{numberOf}
 use Rattle.keycode.specs.declared.refusal.Refusal.{Refusal}
+use Rattle.keys.specs.Keys.{encode, txnWrite, version}
 use Rattle.entry.specs.Entry.{Entry}
 use Rattle.keydir.specs.Slots.{slotsOf}
 use Rattle.keydir.specs.Place.{countOf, all-none, all-more}
@@ -18,19 +19,23 @@ use Rattle.recovery.specs.Recover.{view}
 use Rattle.recovery.specs.Agree.{fit, Agrees}
 use Rattle.recovery.specs.Promises.{changedNumber}
 use Rattle.recovery.proofs.AgreeLaws.{Sound, fit-sound}
-use Rattle.bitcask.specs.declared.append.Check.{Check}
-use Rattle.bitcask.specs.declared.append.Check.the-variants.{Fine, Refused}
-use Rattle.bitcask.specs.Append.{appendAnswer}
+use Rattle.changes.specs.declared.append.Check.{Check}
+use Rattle.changes.specs.declared.append.Check.the-variants.{Fine, Refused}
+use Rattle.changes.specs.Append.{appendAnswer}
+use Rattle.codes.specs.declared.Code.{Code}
+use Rattle.codes.specs.Codes.{Codes}
 use Rattle.handle.specs.declared.handle.Handle.{Handle}
 use Rattle.handle.specs.Handles.{soundHandle}
 use Rattle.txn.specs.Looks.{liveOf}
 use Rattle.txn.specs.Checks.{activeKey, openBy, orElse}
 use Rattle.txn.specs.Lists.{Sets, sets-none, sets-more, Apart, apart-none, apart-more, Tries}
 use Rattle.txn.proofs.CheckLaws.{open-agrees}
-use Rattle.mvcc_write.specs.Writes.{allowBy, searchBy, versionsIn, plan}
+use Rattle.mvcc_write.specs.Writes.{allowBy, plan}
+use Rattle.conflicts.specs.Conflicts.{searchBy, versionsIn}
 use Rattle.mvcc_write.specs.Promises.{Writes, writeAnswer}
-use Rattle.mvcc_write.proofs.SearchLaws.{Found, found-bad, found-unseen, search-refused, search-agrees}
-use Rattle.mvcc_write.proofs.LayLaws.{Late, late-unseen, late-bad, leaves-refused, tries-lays}
+use Rattle.conflicts.proofs.SearchLaws.{Found, found-bad, found-unseen, search-refused, search-agrees}
+use Rattle.lays.proofs.PairLaws.{pairOf}
+use Rattle.lays.proofs.LayLaws.{Late, late-unseen, late-bad, leaves-refused, tries-lays}
 use Rattle.mvcc_write.proofs.AllowLaws.{Allowed, allow-fine, early-refused, early-late}
 
 -- ---- the entries
@@ -45,6 +50,12 @@ tags-differ a b e = let z : _≡_ {A = ℕ} 3 4 = cc in omega arith
 plan-apart : (v : ℕ) (key payload : List ℕ) → Apart (plan v key payload)
 unfolding plan
 plan-apart v key payload = apart-more (all-more (tags-differ _ _) all-none) (apart-more all-none apart-none)
+
+-- the keys by their codes
+pub plan-tried : (log : List ℕ) (at : ℕ) (t : List ℕ) (n v : ℕ) (key payload : List ℕ) (a b : Code) (r : Changed) (log′ t′ : List ℕ) → Codes a (encode (txnWrite v key)) → Codes b (encode (version key v))
+    → Tries log at t n (pairOf (take (a .len) (a .bytes)) (take (b .len) (b .bytes)) payload) r log′ t′ → Tries log at t n (plan v key payload) r log′ t′
+unfolding plan
+plan-tried log at t n v key payload a b r log′ t′ wa wb w = rw (wa .says, wb .says) at w
 
 found-late : {r : Refusal} → Found r → Late (numberOf r)
 found-late found-bad = late-bad

@@ -1,30 +1,28 @@
 -- What the writes promise, in three parts. Always: what a refusal leaves, and that nothing outside changes. Request: the numbers that need
 -- no table, exactly in their cases. Agreed: where the table agrees with the log, the answer and every byte are the map's, and the table
 -- agrees again. docs/TABLES.md says why the last part has that condition. Assumes nothing.
-use Prim.Native.Nat.{ℕ, _+_, _≤_}
+use Prim.Native.Nat.{ℕ}
 use mathlib.Core.Path.{_≡_}
 use mathlib.Core.Bool.{Bool, true, false, not}
 use mathlib.Core.List.{List}
 use lib.Dec.{leb, eqb}
 use lib.ListN.{length}
-use Rattle.keycode.specs.Tests.{pick, ifDone}
+use Rattle.keycode.specs.Tests.{pick}
 use Rattle.keycode.specs.Limits.{maxKey, maxValue}
-use Rattle.keycode.specs.Buffer.{put}
 use Rattle.entry.specs.Entry.{Entry}
-use Rattle.keycode.specs.declared.refusal.Refusal.the-variants.{BadRequest}
-use Rattle.recovery.specs.declared.request.Used.{Used}
 use Rattle.recovery.specs.declared.request.Changed.{Changed}
-use Rattle.recovery.specs.declared.request.Changed.the-variants.{Done, Refused}
 use Rattle.recovery.specs.Recover.{mapOf}
 use Rattle.recovery.specs.Agree.{fit, Agrees}
 use Rattle.recovery.specs.Promises.{changedNumber}
-use Rattle.bitcask.specs.Append.{sizeAll, bytesAll, appendAnswer}
+use Rattle.changes.specs.Append.{appendAnswer}
 use Rattle.handle.specs.declared.handle.Handle.{Handle}
 use Rattle.handle.specs.Handles.{soundHandle}
 use Rattle.txn.specs.Ranges.{pairsOf}
 use Rattle.txn.specs.Looks.{liveIn}
 use Rattle.txn.specs.Checks.{activeKey, ownVersion, openBy, orElse}
-use Rattle.mvcc_write.specs.Writes.{sizesBy, allowBy, searchBy, searched, plan, plainPlan}
+use Rattle.lays.specs.Lays.{Leaves}
+use Rattle.mvcc_write.specs.Writes.{allowBy, plan}
+use Rattle.conflicts.specs.Conflicts.{searchBy, searched}
 
 -- a request that is none of 13 and 2
 unfoldable pub mayWrite : Bool → Bool → Bool → Bool
@@ -39,28 +37,11 @@ pub record Early (fits sound reads own short small : Bool) (n : ℕ) : Type 0 wh
   pub keyLong : eqb n 4 ≡ pick (mayWrite fits sound reads) (pick (eqb n 3) false (not short)) false
   pub valueLong : eqb n 5 ≡ pick (mayWrite fits sound reads) (pick (eqb n 3) false (pick short (not small) false)) false
 
--- the same of the unversioned set, which needs no table for 7 either: `room` is whether the log has room
-pub record EarlyPlain (fits short small room : Bool) (n : ℕ) : Type 0 where
-  pub bad : eqb n 13 ≡ not fits
-  pub keyLong : eqb n 4 ≡ pick fits (not short) false
-  pub valueLong : eqb n 5 ≡ pick fits (pick short (not small) false) false
-  pub full : eqb n 7 ≡ pick fits (pick short (pick small (not room) false) false) false
-
 -- the checks, the search, and the entries' own 7 and 8, all of the map
 unfoldable pub writeAnswer : List ℕ → ℕ → ℕ → Handle → List ℕ → ℕ → List Entry → Changed
 writeAnswer log used words h key size es =
     orElse (allowBy (fit (length log) used words) (soundHandle h) (h .«read_only») (openBy h (liveIn (activeKey h) (mapOf log used))) (leb (length key) maxKey) (leb size maxValue))
     (orElse (searchBy h (pairsOf (searched h key) (mapOf log used))) (appendAnswer log used words es))
-
--- what a call that appends entries, all or none, leaves
-pub record Leaves (log : List ℕ) (used : ℕ) (t : List ℕ) (es : List Entry) (r : Changed) (log′ t′ : List ℕ) : Type 0 where
-  -- always
-  pub bytes : log′ ≡ ifDone (changedNumber r) (put log used (bytesAll es)) log
-  pub words : t′ ≡ ifDone (changedNumber r) t′ t
-  pub long : length t′ ≡ length t
-  pub ends : (u : Used) → r ≡ Done u → (u .len ≡ used + sizeAll es) × (used + sizeAll es ≤ length log)
-  -- agreed
-  pub again : Agrees log used t → changedNumber r ≡ 0 → Agrees log′ (used + sizeAll es) t′
 
 -- a write of a payload with so many bytes of the user's
 pub record Writes (log : List ℕ) (used : ℕ) (t : List ℕ) (h : Handle) (key payload : List ℕ) (size : ℕ) (r : Changed) (log′ t′ : List ℕ) : Type 0 where
@@ -69,16 +50,3 @@ pub record Writes (log : List ℕ) (used : ℕ) (t : List ℕ) (h : Handle) (key
   pub early : Early (fit (length log) used (length t)) (soundHandle h) (h .«read_only») (ownVersion (h .version)) (leb (length key) maxKey) (leb size maxValue) (changedNumber r)
   -- agreed
   pub answer : Agrees log used t → r ≡ writeAnswer log used (length t) h key size (plan (h .version) key payload)
-
--- ---- the unversioned set
-
-unfoldable pub plainAnswer : List ℕ → ℕ → ℕ → List ℕ → List ℕ → Changed
-plainAnswer log used words key value =
-    pick (fit (length log) used words) (orElse (sizesBy (leb (length key) maxKey) (leb (length value) maxValue)) (appendAnswer log used words (plainPlan key value))) (Refused BadRequest)
-
-pub record SetsPlain (log : List ℕ) (used : ℕ) (t key value : List ℕ) (r : Changed) (log′ t′ : List ℕ) : Type 0 where
-  pub leaves : Leaves log used t (plainPlan key value) r log′ t′
-  -- request
-  pub early : EarlyPlain (fit (length log) used (length t)) (leb (length key) maxKey) (leb (length value) maxValue) (leb (used + sizeAll (plainPlan key value)) (length log)) (changedNumber r)
-  -- agreed
-  pub answer : Agrees log used t → r ≡ plainAnswer log used (length t) key value

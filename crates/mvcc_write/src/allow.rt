@@ -1,9 +1,8 @@
 // What is asked of a write before the store is searched.
-use bitcask::append::Check;
+use changes::append::Check;
 use handle::Handle;
 use keycode::Refusal;
-use keycode::limits::MAX_KEY;
-use keycode::limits::MAX_VALUE;
+use lays::size::sized;
 use recovery::Used;
 use txn::check::admit;
 ghost use mathlib.Core.Path.{_≡_};
@@ -16,21 +15,7 @@ ghost use Rattle.recovery.specs.Agree.{fit};
 ghost use Rattle.handle.specs.Handles.{soundHandle};
 ghost use Rattle.txn.specs.Looks.{liveOf};
 ghost use Rattle.txn.specs.Checks.{activeKey, openBy};
-ghost use Rattle.mvcc_write.specs.Writes.{sizesBy, allowBy};
-
-// 4, then 5.
-pub fn sized(klen: usize, vlen: usize) -> Check
-    ensures { λ r. ⌜ r ≡ sizesBy (leb klen maxKey) (leb vlen maxValue) ⌝ }
-{
-    if MAX_KEY < klen {
-        return Check::Refused(Refusal::KeyTooLong);
-    }
-    if MAX_VALUE < vlen {
-        Check::Refused(Refusal::ValueTooLong)
-    } else {
-        Check::Fine
-    }
-}
+ghost use Rattle.mvcc_write.specs.Writes.{allowBy};
 
 // 13, 2, 3, 4, 5. A read-only handle is never refused with 3, so that 2 may be asked after it.
 pub fn allowed(

@@ -12,11 +12,11 @@ use Rattle.keycode.specs.Number.{be}
 use Rattle.keycode.proofs.NumberLaws.{num-be, length-be}
 use Rattle.keys.specs.Keys.{encode, txnActive}
 use Rattle.keydir.specs.Place.{All, all-none, all-more}
-use Rattle.handle.specs.declared.payload.VersionRead.the-variants.{Read}
+use Rattle.payloads.specs.declared.VersionRead.the-variants.{Read}
 use Rattle.handle.specs.Handles.{rising, risingFrom}
-use Rattle.handle.specs.Payloads.{Versions}
+use Rattle.payloads.specs.Payloads.{Versions}
 use Rattle.txn.specs.Ranges.{begins, pairsOf}
-use Rattle.mvcc_begin.specs.Active.{activeIn, versionsIn, keysOf, activeKeys, activeAt}
+use Rattle.active.specs.Active.{activeIn, versionsIn, keysOf, activeKeys, activeAt}
 use Rattle.history.specs.Records.{nextRec, activeRec, snapRec, wroteRec, verRec, plainRec, Map, Above, above-cons, Sorted, sorted-nil, sorted-cons}
 use Rattle.history.specs.Calls.{actives}
 use Rattle.records.specs.Stored.{pairsIn, keyOrder, Fine}

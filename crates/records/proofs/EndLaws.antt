@@ -15,12 +15,13 @@ use Rattle.keys.proofs.KeyLaws.{decode-encode, fields-placed}
 use Rattle.entry.specs.Entry.{Entry, del}
 use Rattle.keydir.specs.Place.{All, all-none, all-more}
 use Rattle.recovery.specs.Map.{Pair, after}
-use Rattle.bitcask.specs.Append.{afterAll}
+use Rattle.changes.specs.Append.{afterAll}
 use Rattle.handle.specs.declared.handle.Handle.{Handle}
 use Rattle.txn.specs.Ranges.{pairsOf}
 use Rattle.txn.proofs.RecordLaws.{writtenBy as isWrite, write-begins}
 use Rattle.tombs.specs.Plans.{cutsOf}
-use Rattle.mvcc_end.specs.Plans.{writesOf, commitPlan, userIn, undosOf, allUsers, rollbackPlan}
+use Rattle.undo.specs.Plans.{userIn, undosOf, allUsers}
+use Rattle.mvcc_end.specs.Plans.{writesOf, commitPlan, rollbackPlan}
 use Rattle.history.specs.History.{Key}
 use Rattle.history.specs.Records.{Rec, nextRec, activeRec, snapRec, wroteRec, verRec, plainRec, keyOf, Map, delAll, Sorted}
 use Rattle.history.specs.Calls.{writtenBy, commitKeys, undoKeys, commitMap, rollbackMap}

@@ -10,7 +10,7 @@ use Rattle.keycode.specs.Limits.{maxKey, maxOpen}
 use Rattle.keys.specs.Keys.{Fields, nextVersion}
 use Rattle.keydir.specs.Place.{All, all-none, all-more}
 use Rattle.handle.specs.Handles.{rising}
-use Rattle.handle.specs.Payloads.{Versions}
+use Rattle.payloads.specs.Payloads.{Versions}
 use Rattle.history.specs.History.{Key, Bytes}
 use Rattle.history.specs.Records.{Rec, nextRec, activeRec, snapRec, wroteRec, verRec, plainRec, keyOf, Map, look, without, delAll, place, put, Sorted}
 use Rattle.history.specs.Calls.{nextOf, actives, putSnap, beginMap, writeMap, writtenBy, commitKeys, undoKeys, commitMap, rollbackMap}

@@ -7,10 +7,11 @@ use native.Mathlib.Numerals.{add-one}
 use Rattle.keys.specs.Keys.{encode, nextVersion, txnActiveSnapshot}
 use Rattle.entry.specs.Entry.{set}
 use Rattle.recovery.specs.Map.{after}
-use Rattle.bitcask.specs.Append.{afterAll}
-use Rattle.handle.specs.Payloads.{setBytes, valueBytes}
+use Rattle.changes.specs.Append.{afterAll}
+use Rattle.payloads.specs.Payloads.{setBytes, valueBytes}
 use Rattle.mvcc_begin.specs.Plan.{nextEntry, ownEntry, snapshotBy, planBy, beginPlan}
-use Rattle.mvcc_write.specs.Writes.{plan, plainPlan}
+use Rattle.mvcc_write.specs.Writes.{plan}
+use Rattle.mvcc_plain.specs.Promises.{plainPlan}
 use Rattle.history.specs.History.{Key, Bytes}
 use Rattle.history.specs.Records.{Rec, nextRec, activeRec, snapRec, wroteRec, verRec, plainRec, keyOf, Map, look, put}
 use Rattle.history.specs.Calls.{nextOf, actives, putSnap, beginMap, writeMap}

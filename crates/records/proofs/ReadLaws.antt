@@ -12,13 +12,13 @@ use Rattle.keycode.proofs.Basics.{nope}
 use Rattle.keys.specs.Keys.{Fields, encode, nextVersion, txnActiveSnapshot}
 use Rattle.keydir.specs.Place.{All, all-none, all-more}
 use Rattle.recovery.specs.Map.{lookIn}
-use Rattle.handle.specs.declared.payload.VersionRead.the-variants.{Read}
-use Rattle.handle.specs.declared.payload.SetAnswer.the-variants as SetAnswers
+use Rattle.payloads.specs.declared.VersionRead.the-variants.{Read}
+use Rattle.payloads.specs.declared.SetAnswer.the-variants as SetAnswers
 use Rattle.handle.specs.Handles.{handleOf}
-use Rattle.handle.specs.Payloads.{setFor}
-use Rattle.handle.proofs.PayloadLaws.{first-reads}
-use Rattle.mvcc_begin.specs.Active.{nextOf as nextIn, nextAt}
-use Rattle.mvcc_begin.specs.Begins.{snapshotRead}
+use Rattle.payloads.specs.Payloads.{setFor}
+use Rattle.payloads.proofs.PayloadLaws.{first-reads}
+use Rattle.active.specs.Active.{nextOf as nextIn, nextAt}
+use Rattle.mvcc_past.specs.Answers.{snapshotRead}
 use Rattle.history.specs.Records.{fields≟, Rec, nextRec, activeRec, snapRec, wroteRec, verRec, plainRec, keyOf, Map, look, Sorted}
 use Rattle.history.specs.Calls.{nextOf, setOf}
 use Rattle.records.specs.Stored.{payloadOf, pairsIn, keyOrder, Fine}

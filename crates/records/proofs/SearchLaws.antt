@@ -13,13 +13,13 @@ use Rattle.keycode.specs.declared.refusal.Refusal.the-variants.{Conflict}
 use Rattle.keys.specs.Keys.{encode, version}
 use Rattle.keys.proofs.KeyLaws.{decode-encode}
 use Rattle.keydir.specs.Place.{All, all-none, all-more}
-use Rattle.bitcask.specs.declared.append.Check.{Check}
-use Rattle.bitcask.specs.declared.append.Check.the-variants as Check
+use Rattle.changes.specs.declared.append.Check.{Check}
+use Rattle.changes.specs.declared.append.Check.the-variants as Check
 use Rattle.handle.specs.declared.handle.Handle.{Handle}
 use Rattle.handle.specs.Handles.{setOf, sees}
-use Rattle.handle.specs.Payloads.{Versions}
+use Rattle.payloads.specs.Payloads.{Versions}
 use Rattle.txn.specs.Ranges.{pairsOf}
-use Rattle.mvcc_write.specs.Writes.{seenBytes, searchBy, searched}
+use Rattle.conflicts.specs.Conflicts.{seenBytes, searchBy, searched}
 use Rattle.history.specs.History.{key≟, lowest, upTo}
 use Rattle.history.specs.Records.{Rec, nextRec, activeRec, snapRec, wroteRec, verRec, plainRec, keyOf, Map}
 use Rattle.history.specs.Calls.{versionsOf, back, lastOf, visible, hides, lastVersion, conflict}

@@ -18,9 +18,9 @@ use Rattle.keydir.specs.Place.{All, all-none, all-more}
 use Rattle.recovery.specs.Map.{Pair}
 use Rattle.handle.specs.declared.handle.Handle.{Handle}
 use Rattle.handle.specs.Handles.{setOf, sees}
-use Rattle.handle.proofs.PayloadLaws.{first-reads}
+use Rattle.payloads.proofs.PayloadLaws.{first-reads}
 use Rattle.txn.specs.Ranges.{pairsOf}
-use Rattle.mvcc_read.specs.Seen.{versionTest, pairSays, orPair, lastPair, orGone, valueFor}
+use Rattle.seen.specs.Seen.{versionTest, pairSays, orPair, lastPair, orGone, valueFor}
 use Rattle.history.specs.History.{isIn, key≟}
 use Rattle.history.specs.Records.{Rec, nextRec, activeRec, snapRec, wroteRec, verRec, plainRec, Map}
 use Rattle.history.specs.Calls.{itemOf, versionsOf, back, lastOf, flat, visible, shown}

@@ -15,11 +15,11 @@ use Rattle.keys.proofs.KeyLaws.{decode-encode, fields-placed}
 use Rattle.keydir.specs.Place.{All, all-none, all-more}
 use Rattle.recovery.specs.Map.{Pair}
 use Rattle.handle.specs.declared.handle.Handle.{Handle}
-use Rattle.handle.proofs.PayloadLaws.{first-reads}
+use Rattle.payloads.proofs.PayloadLaws.{first-reads}
 use Rattle.txn.specs.Ranges.{pairsOf}
 use Rattle.mvcc_scan.specs.Steps.{Stamp, stampOf, Sight, hidden, sightBy, sameUser, sightFor, orSight, highest, cleanTo, cleanBy, anyOf, stepBy, stepOn, stepPairs}
 use Rattle.mvcc_scan.specs.Steps as Steps
-use Rattle.mvcc_scan.specs.Walks.{isEqual}
+use Rattle.walks.specs.Walks.{isEqual}
 use Rattle.mvcc_scan.proofs.GroupLaws.{user-same}
 use Rattle.history.specs.History.{Key, Bytes, key≟}
 use Rattle.history.specs.History as History

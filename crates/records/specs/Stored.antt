@@ -12,7 +12,7 @@ use Rattle.keys.specs.Keys.{Fields, encode}
 use Rattle.recovery.specs.Map.{Pair}
 use Rattle.handle.specs.declared.handle.Handle.{Handle}
 use Rattle.handle.specs.Handles.{setOf, rising}
-use Rattle.handle.specs.Payloads.{Versions, versionBytes, setBytes, valueBytes}
+use Rattle.payloads.specs.Payloads.{Versions, versionBytes, setBytes, valueBytes}
 use Rattle.history.specs.History.{Sight}
 use Rattle.history.specs.Records.{Rec, nextRec, activeRec, snapRec, wroteRec, verRec, plainRec, keyOf, Map}
 

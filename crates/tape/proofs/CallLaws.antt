@@ -18,9 +18,11 @@ use Rattle.bitcask.specs.declared.answers.Located.{Located}
 use Rattle.compaction.specs.declared.status.Counted.{Counted}
 use Rattle.compaction.specs.Promises.{Compacts, Counting}
 use Rattle.handle.specs.declared.handle.Handle.{Handle}
-use Rattle.handle.specs.Payloads.{valueBytes}
+use Rattle.payloads.specs.Payloads.{valueBytes}
 use Rattle.txn.specs.declared.begun.Begun.{Begun}
-use Rattle.mvcc_begin.specs.Promises.{Begins, BeginsReading, BeginsAsOf}
+use Rattle.mvcc_begin.specs.Promises.{Begins}
+use Rattle.mvcc_view.specs.Promises.{BeginsReading}
+use Rattle.mvcc_past.specs.Promises.{BeginsAsOf}
 use Rattle.mvcc_read.specs.Promises.{Gets}
 use Rattle.mvcc_write.specs.Promises.{Writes}
 use Rattle.mvcc_end.specs.Promises.{Commits, RollsBack}

@@ -4,9 +4,11 @@ use mathlib.Core.Path.{_≡_, refl}
 use mathlib.Core.Option.{none, some}
 use mathlib.Core.List.{List}
 use lib.ListN.{length}
-use Rattle.handle.specs.Payloads.{valueBytes}
+use Rattle.payloads.specs.Payloads.{valueBytes}
 use Rattle.compaction.specs.Promises.{Counting}
-use Rattle.mvcc_begin.specs.Promises.{Begins, BeginsReading, BeginsAsOf}
+use Rattle.mvcc_begin.specs.Promises.{Begins}
+use Rattle.mvcc_view.specs.Promises.{BeginsReading}
+use Rattle.mvcc_past.specs.Promises.{BeginsAsOf}
 use Rattle.mvcc_read.specs.Promises.{Gets}
 use Rattle.mvcc_write.specs.Promises.{Writes}
 use Rattle.mvcc_scan.specs.Promises.{ScansPrefix}

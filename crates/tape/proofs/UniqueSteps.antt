@@ -13,7 +13,9 @@ use Rattle.compaction.specs.declared.status.Counted.{Counted}
 use Rattle.compaction.proofs.CompactUnique.{counting-unique}
 use Rattle.handle.specs.declared.handle.Handle.{Handle}
 use Rattle.txn.specs.declared.begun.Begun.{Begun}
-use Rattle.mvcc_begin.proofs.Unique.{reading-unique, as-of-unique, begins-answer, begins-log, begins-table}
+use Rattle.mvcc_view.proofs.Unique.{reading-unique}
+use Rattle.mvcc_past.proofs.Unique.{as-of-unique}
+use Rattle.mvcc_begin.proofs.Unique.{begins-answer, begins-log, begins-table}
 use Rattle.mvcc_read.proofs.Unique.{gets-unique}
 use Rattle.mvcc_write.proofs.Unique.{writes-answer, writes-log, writes-table}
 use Rattle.mvcc_scan.proofs.Unique.{scans-unique}

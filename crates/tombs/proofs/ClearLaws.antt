@@ -7,9 +7,9 @@ use Rattle.keycode.specs.declared.refusal.Refusal.the-variants.{LogFull}
 use Rattle.entry.specs.Entry.{Entry, del, entryKey, entryValue}
 use Rattle.keydir.specs.Slots.{slotsOf}
 use Rattle.recovery.specs.declared.request.Changed.the-variants as Change
-use Rattle.bitcask.specs.declared.append.Room.{Room}
-use Rattle.bitcask.specs.declared.append.Room.the-variants.{Left, Full}
-use Rattle.bitcask.specs.Append.{State, roomAfter}
+use Rattle.changes.specs.declared.append.Room.{Room}
+use Rattle.changes.specs.declared.append.Room.the-variants.{Left, Full}
+use Rattle.changes.specs.Append.{State, roomAfter}
 use Rattle.txn.specs.declared.range.Span.{Span}
 use Rattle.txn.specs.Ranges.{slice}
 use Rattle.txn.specs.Lists.{roomAll, stateOf}

@@ -13,7 +13,7 @@ use Rattle.keydir.specs.Slots.{slotsOf}
 use Rattle.keydir.specs.Place.{countOf}
 use Rattle.keydir.proofs.SlotLaws.{slots-length}
 use Rattle.recovery.specs.Agree.{Agrees}
-use Rattle.bitcask.specs.Append.{State, sizeAll}
+use Rattle.changes.specs.Append.{State, sizeAll}
 use Rattle.txn.specs.declared.range.Span.{Span}
 use Rattle.txn.specs.Ranges.{slice}
 use Rattle.txn.specs.Lists.{appendedAll, Dels, dels-none, dels-more, stateOf}

@@ -11,8 +11,8 @@ use Rattle.keydir.specs.declared.slots.Slot.{Slot}
 use Rattle.keydir.specs.declared.place.Found.{Found}
 use Rattle.keydir.specs.Slots.{slotAt, slotsOf, keyOf}
 use Rattle.keydir.specs.Place.{placeOf, cutAt, Becomes}
-use Rattle.bitcask.specs.Append.{State, appended}
-use Rattle.bitcask.proofs.AppendLaws.{appended-is, del-becomes}
+use Rattle.changes.specs.Append.{State, appended}
+use Rattle.changes.proofs.AppendLaws.{appended-is, del-becomes}
 use Rattle.txn.specs.Lists.{stateOf}
 use Rattle.tombs.specs.Cuts.{cutOne, cutSlot}
 use Rattle.tombs.proofs.TombLaws.{key-long}

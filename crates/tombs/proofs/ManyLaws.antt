@@ -14,7 +14,7 @@ use Rattle.entry.specs.Entry.{del, bytesOf, sizeOf}
 use Rattle.entry.proofs.EntryLaws.{length-bytes}
 use Rattle.keydir.specs.declared.slots.Slot.{Slot}
 use Rattle.keydir.specs.Slots.{slotWords, slotAt, keyOf}
-use Rattle.bitcask.specs.Append.{State, appended, sizeAll}
+use Rattle.changes.specs.Append.{State, appended, sizeAll}
 use Rattle.txn.specs.Lists.{appendedAll}
 use Rattle.txn.proofs.ListLaws.{all-used, all-size, all-words, all-count}
 use Rattle.tombs.specs.Cuts.{cutOne, cutSlot, cutMany, cutKey, Extends}

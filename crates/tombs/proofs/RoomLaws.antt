@@ -9,8 +9,8 @@ use lib.Seq.{drop-cons, getD-take, length-take-le}
 use Rattle.keydir.specs.declared.slots.Slot.{Slot}
 use Rattle.keydir.specs.Slots.{freeSlot, slotAt, slotsOf, keyOf}
 use Rattle.keydir.proofs.SlotLaws.{slots-length, slot-at-is}
-use Rattle.bitcask.specs.declared.append.Room.{Room}
-use Rattle.bitcask.specs.Append.{roomAfter}
+use Rattle.changes.specs.declared.append.Room.{Room}
+use Rattle.changes.specs.Append.{roomAfter}
 use Rattle.txn.specs.Ranges.{slice}
 use Rattle.txn.specs.Lists.{roomAll}
 use Rattle.tombs.specs.Cuts.{delsOf}

@@ -17,7 +17,7 @@ use Rattle.recovery.specs.Recover.{recovered}
 use Rattle.recovery.specs.Agree.{Agrees}
 use Rattle.recovery.proofs.FoldLaws.{Inside, recovered-sorted, recovered-inside}
 use Rattle.recovery.proofs.AgreeLaws.{agrees-sound, agrees-slots, agrees-place, append-before}
-use Rattle.bitcask.specs.Append.{State, appended, sizeAll}
+use Rattle.changes.specs.Append.{State, appended, sizeAll}
 use Rattle.txn.specs.Lists.{appendedAll, dels-none, dels-more}
 use Rattle.txn.proofs.ListLaws.{Appends, all-size}
 use Rattle.txn.proofs.FitLaws.{dels-append}

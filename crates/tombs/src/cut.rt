@@ -1,7 +1,7 @@
 // Slots' keys deleted: a tombstone for each, and the slot gone.
 use crate::tomb::tomb_of;
-use bitcask::append::Mark;
-use bitcask::append::append_del;
+use changes::append::Mark;
+use changes::append::append_del;
 use keydir::find;
 use keydir::key_of;
 use keydir::leave;

@@ -1,6 +1,6 @@
 // The room that tombstones leave, before any is laid.
-use bitcask::append::Room;
-use bitcask::append::room_after;
+use changes::append::Room;
+use changes::append::room_after;
 use keydir::key_of;
 use keydir::slot_at;
 use txn::Span;

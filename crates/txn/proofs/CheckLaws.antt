@@ -18,11 +18,11 @@ use Rattle.keydir.specs.Slots.{slotsOf}
 use Rattle.keydir.specs.Place.{countOf}
 use Rattle.recovery.specs.Recover.{mapOf}
 use Rattle.recovery.specs.Agree.{fit, Agrees}
-use Rattle.bitcask.specs.declared.append.Check.{Check}
-use Rattle.bitcask.specs.declared.append.Check.the-variants.{Fine, Refused}
-use Rattle.handle.specs.declared.code.Code.{Code}
+use Rattle.changes.specs.declared.append.Check.{Check}
+use Rattle.changes.specs.declared.append.Check.the-variants.{Fine, Refused}
+use Rattle.codes.specs.declared.Code.{Code}
 use Rattle.handle.specs.declared.handle.Handle.{Handle}
-use Rattle.handle.specs.Codes.{Codes}
+use Rattle.codes.specs.Codes.{Codes}
 use Rattle.handle.specs.Handles.{soundHandle}
 use Rattle.txn.specs.Looks.{liveOf, liveIn}
 use Rattle.txn.specs.Checks.{activeKey, ownVersion, openBy, admitBy, checkNumber, onFine}

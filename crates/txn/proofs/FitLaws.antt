@@ -22,9 +22,9 @@ use Rattle.recovery.specs.Recover.{mapOf}
 use Rattle.recovery.specs.Agree.{Agrees}
 use Rattle.recovery.proofs.MapLaws.{put-other}
 use Rattle.recovery.proofs.AgreeLaws.{agrees-sound, agrees-count, agrees-room, map-length}
-use Rattle.bitcask.specs.declared.append.Room.the-variants.{Left, Full}
-use Rattle.bitcask.specs.declared.append.Check.the-variants.{Fine}
-use Rattle.bitcask.specs.Append.{judge, sizeAll, afterAll, appendAnswer}
+use Rattle.changes.specs.declared.append.Room.the-variants.{Left, Full}
+use Rattle.changes.specs.declared.append.Check.the-variants.{Fine}
+use Rattle.changes.specs.Append.{judge, sizeAll, afterAll, appendAnswer}
 use Rattle.txn.specs.Looks.{liveIn}
 use Rattle.txn.specs.Lists.{appendedAll, roomAll, Sets, sets-none, sets-more, Dels, dels-none, dels-more, Apart, apart-more, newIn, newAll, freshAll, Fitting, fitting-none, fitting-more, checkOf}
 use Rattle.txn.proofs.LookLaws.{fresh-agrees}

@@ -22,8 +22,8 @@ use Rattle.recovery.specs.Map.{Pair, after}
 use Rattle.recovery.specs.Recover.{itemFor, mapOf}
 use Rattle.recovery.specs.Agree.{Agrees}
 use Rattle.recovery.proofs.AgreeLaws.{agrees-sound, agrees-count, map-length, append-map, append-agrees}
-use Rattle.bitcask.specs.Append.{State, slotsAfter, appended, sizeAll, bytesAll, afterAll}
-use Rattle.bitcask.proofs.ChangeLaws.{freshFor, freeIn, count-set, after-length, after-slots}
+use Rattle.changes.specs.Append.{State, slotsAfter, appended, sizeAll, bytesAll, afterAll}
+use Rattle.changes.proofs.ChangeLaws.{freshFor, freeIn, count-set, after-length, after-slots}
 use Rattle.txn.specs.Lists.{appendedAll, Fitting, fitting-more}
 
 -- ---- any table

@@ -17,7 +17,7 @@ use Rattle.recovery.specs.Recover.{recovered, view, mapOf}
 use Rattle.recovery.specs.Agree.{Agrees}
 use Rattle.recovery.proofs.ViewLaws.{valueAt, look-view}
 use Rattle.recovery.proofs.AgreeLaws.{agrees-slots, agrees-place}
-use Rattle.bitcask.specs.Append.{wants, freshIn}
+use Rattle.changes.specs.Append.{wants, freshIn}
 use Rattle.bitcask.proofs.RankLaws.{found-at}
 use Rattle.txn.specs.declared.look.Slotted.the-variants as Slots
 use Rattle.txn.specs.Looks.{isAt, liveOf, isSome, liveIn, slottedBy, slotOf, slotIn, slotValue}

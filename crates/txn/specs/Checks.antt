@@ -9,8 +9,8 @@ use Rattle.keycode.specs.Tests.{pick}
 use Rattle.keycode.specs.Refusals.{numberOf}
 use Rattle.keys.specs.Keys.{encode, txnActive}
 use Rattle.keycode.specs.declared.refusal.Refusal.the-variants.{NotOpen, BadRequest}
-use Rattle.bitcask.specs.declared.append.Check.{Check}
-use Rattle.bitcask.specs.declared.append.Check.the-variants.{Fine, Refused}
+use Rattle.changes.specs.declared.append.Check.{Check}
+use Rattle.changes.specs.declared.append.Check.the-variants.{Fine, Refused}
 use Rattle.recovery.specs.declared.request.Changed.{Changed}
 use Rattle.recovery.specs.declared.request.Changed.the-variants as Change
 use Rattle.recovery.specs.Recover.{mapOf}

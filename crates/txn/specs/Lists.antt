@@ -11,11 +11,11 @@ use Rattle.keydir.specs.Place.{All}
 use Rattle.recovery.specs.Map.{Pair, after}
 use Rattle.recovery.specs.declared.request.Changed.{Changed}
 use Rattle.recovery.specs.declared.request.Changed.the-variants as Change
-use Rattle.bitcask.specs.declared.append.Room.{Room}
-use Rattle.bitcask.specs.declared.append.Room.the-variants.{Left}
-use Rattle.bitcask.specs.declared.append.Check.{Check}
-use Rattle.bitcask.specs.declared.append.Check.the-variants.{Fine, Refused}
-use Rattle.bitcask.specs.Append.{State, appended, roomAfter, freshIn, judge, sizeAll}
+use Rattle.changes.specs.declared.append.Room.{Room}
+use Rattle.changes.specs.declared.append.Room.the-variants.{Left}
+use Rattle.changes.specs.declared.append.Check.{Check}
+use Rattle.changes.specs.declared.append.Check.the-variants.{Fine, Refused}
+use Rattle.changes.specs.Append.{State, appended, roomAfter, freshIn, judge, sizeAll}
 use Rattle.txn.specs.Looks.{liveIn}
 use Rattle.txn.specs.Checks.{onFine, orElse}
 

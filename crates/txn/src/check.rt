@@ -1,8 +1,8 @@
 // The checks that come first in every transaction call: 13, then 3.
 use crate::look::live;
-use bitcask::append::Check;
+use changes::append::Check;
+use codes::active_code;
 use handle::Handle;
-use handle::code::active_code;
 use keycode::Refusal;
 use keydir::count;
 use recovery::Used;

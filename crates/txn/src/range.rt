@@ -10,7 +10,7 @@ use keycode::prefix_end;
 ghost use Prim.Native.Nat.{_*_, _≤_};
 ghost use lib.ListN.{length};
 ghost use Rattle.keydir.specs.Slots.{slotWords, slotsOf};
-ghost use Rattle.handle.specs.Codes.{keyBytes};
+ghost use Rattle.codes.specs.Codes.{keyBytes};
 ghost use Rattle.txn.specs.Ranges.{Spans, Prefixes, activePrefix, writePrefix};
 
 // The slots from number `from` on, to `to`, which is not one of them. There are none where the bounds cross.

@@ -5,7 +5,7 @@ use mathlib.Core.List.{append-nil}
 use lib.Seq.{length-take-le}
 use lib.ListN.{length}
 use Rattle.keys.specs.Keys.{encode, nextVersion}
-use Rattle.handle.specs.Payloads.{versionBytes}
+use Rattle.payloads.specs.Payloads.{versionBytes}
 use Rattle.keycode.proofs.NumberLaws.{length-be}
 use Rattle.mvcc_begin.proofs.PlanLaws.{whole-laid, size-one, one-written}
 use borrow.Author.Needs.{needs}

@@ -2,7 +2,7 @@
 use mathlib.Core.Path.{sym}
 use lib.Seq.{length-take-le}
 use Rattle.handle.specs.Handles.{setOf}
-use Rattle.handle.specs.Payloads.{setBytes}
+use Rattle.payloads.specs.Payloads.{setBytes}
 use Rattle.mvcc_begin.proofs.PlanLaws.{front-laid, judged-room, start-refused, start-done}
 use borrow.Author.Needs.{needs}
 use native.Mathlib.Omega.{arith}

@@ -1,6 +1,6 @@
 -- `located`: an answer for each that a walk gives.
 use mathlib.Core.Path.{sym, ap}
-use Rattle.mvcc_read.specs.Seen.{locatedSeen}
+use Rattle.seen.specs.Seen.{locatedSeen}
 use borrow.Author.Needs.{needs}
 use Rattle.mvcc_read.proofs.get.located.Statement.{statement}
 use Rattle.mvcc_read.proofs.get.located.Tie as tie

@@ -1,5 +1,5 @@
 -- `delete`: the payload is the tombstone's tag alone.
-use Rattle.handle.specs.Payloads.{valueBytes}
+use Rattle.payloads.specs.Payloads.{valueBytes}
 use borrow.Author.Needs.{needs}
 use Rattle.mvcc_write.proofs.change.delete.Statement.{statement}
 use Rattle.mvcc_write.proofs.change.delete.Tie as tie

@@ -2,7 +2,7 @@
 use mathlib.Core.List.{_++_}
 use mathlib.Core.Path.{sym}
 use lib.Seq.{length-take-le}
-use Rattle.mvcc_write.proofs.PairLaws.{plan-tried}
+use Rattle.mvcc_write.proofs.WriteLaws.{plan-tried}
 use native.Mathlib.Omega.{arith}
 use Rattle.mvcc_write.proofs.change.laid.Statement.{statement}
 use Rattle.mvcc_write.proofs.change.laid.Tie as tie

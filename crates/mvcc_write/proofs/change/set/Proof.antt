@@ -1,5 +1,5 @@
 -- `set`: the payload is the value's tag, and then the value.
-use Rattle.handle.specs.Payloads.{valueBytes}
+use Rattle.payloads.specs.Payloads.{valueBytes}
 use borrow.Author.Needs.{needs}
 use Rattle.mvcc_write.proofs.change.set.Statement.{statement}
 use Rattle.mvcc_write.proofs.change.set.Tie as tie

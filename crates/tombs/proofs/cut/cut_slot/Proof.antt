@@ -1,5 +1,5 @@
 -- `cut_slot` lays the tombstone of the slot's key and takes the slot out.
-use Rattle.bitcask.proofs.RankLaws.{found-among}
+use Rattle.changes.proofs.AppendLaws.{found-among}
 use Rattle.tombs.proofs.CutLaws.{cut-out, cut-tight, cut-done}
 use borrow.Author.Needs.{needs}
 use native.Mathlib.Omega.{arith}

@@ -1,0 +1,3 @@
+-- The laws of what a begin reads.
+pub mod ActiveLaws
+pub mod AgreedLaws

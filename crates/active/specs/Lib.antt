@@ -1,0 +1,2 @@
+-- The definitions of what a begin reads.
+pub mod Active

@@ -1,0 +1,2 @@
+-- The laws of encoded keys by value.
+pub mod CodeLaws

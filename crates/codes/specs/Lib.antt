@@ -1,0 +1,2 @@
+-- The definitions of encoded keys by value.
+pub mod Codes

@@ -1,0 +1,2 @@
+-- The laws of a write's search for conflicts.
+pub mod SearchLaws

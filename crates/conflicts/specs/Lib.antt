@@ -1,0 +1,2 @@
+-- The definitions of a write's search for conflicts.
+pub mod Conflicts

@@ -1,0 +1,2 @@
+-- The laws of the encodings; the crates above cite them.
+pub mod EncodeLaws

@@ -1,0 +1,2 @@
+-- What each encoding promises.
+pub mod Promises

@@ -1,0 +1,2 @@
+-- The definitions of what a write and the unversioned set share.
+pub mod Lays

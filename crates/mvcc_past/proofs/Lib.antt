@@ -1,0 +1,3 @@
+-- The laws of as-of.
+pub mod PastLaws
+pub mod Unique

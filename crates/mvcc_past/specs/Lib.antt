@@ -1,0 +1,3 @@
+-- The definitions of as-of.
+pub mod Answers
+pub mod Promises

@@ -1,0 +1,2 @@
+-- The definitions of the unversioned calls.
+pub mod Promises

@@ -1,0 +1,3 @@
+-- The definitions of the read-only begin and of status.
+pub mod Answers
+pub mod Promises

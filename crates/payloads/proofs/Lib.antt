@@ -1,0 +1,2 @@
+-- The laws of payloads.
+pub mod PayloadLaws

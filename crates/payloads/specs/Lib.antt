@@ -1,0 +1,2 @@
+-- The definitions of payloads.
+pub mod Payloads

@@ -1,0 +1,3 @@
+-- The definitions of a transaction's writes undone.
+pub mod Plans
+pub mod Undo

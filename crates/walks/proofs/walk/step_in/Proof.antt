@@ -1,0 +1,48 @@
+-- `step_in` walks up the slots.
+use Prim.Native.Nat.{_-_}
+use mathlib.Core.Path.{refl}
+use Rattle.walks.proofs.WalkLaws.{Walking, walk-end, walk-more}
+use borrow.Author.Needs.{needs}
+use native.Mathlib.Omega.{arith}
+use Rattle.walks.proofs.walk.step_in.Statement.{statement}
+use Rattle.walks.proofs.walk.step_in.Tie as tie
+
+abbrev Inv-loop : tie.InvT-loop
+Inv-loop log table count from to handle walk₀ i₀ walk i = Walking handle log table count from to walk i
+
+abbrev μ-loop : tie.MeasureT-loop
+μ-loop log table count from to handle walk₀ i₀ walk i = to - i
+
+loop-holds : tie.Need-loop-holds Inv-loop μ-loop
+loop-holds c = record { same = refl }
+
+slot-at-requires : tie.Need-slot-at-requires Inv-loop μ-loop
+slot-at-requires c κs = omega (arith, c .before .before .before .before .pre .0, c .before .before .before .before .pre .1)
+
+add-i : tie.Need-add-i Inv-loop μ-loop
+add-i c = omega arith
+
+loop-less : tie.Need-loop-less Inv-loop μ-loop
+loop-less c = omega arith
+
+loop-again : tie.Need-loop-again Inv-loop μ-loop
+loop-again c = walk-more (c .before .before .before .before .loop .inv) (c .before .before .before .loop-test .taken) (c .before .before .before .before .before .before .before .pre .1) (c .before .before .slot-at .ensures) (c .before .row-of .ensures) (c .next-walk .ensures)
+
+returns : tie.Need-returns Inv-loop μ-loop
+returns c = walk-end (c .before .before .loop .inv) (c .before .loop-test .left) (c .ended .ensures)
+
+pub step-in-spec : {M : Type 1} → statement M
+step-in-spec =
+    tie.close
+    (tie.spec
+    Inv-loop
+    μ-loop
+    loop-holds
+    slot-at-requires
+    (λ c κs. search needs)
+    (λ c κs. search needs)
+    add-i
+    loop-less
+    loop-again
+    (λ c κs. search needs)
+    returns)

@@ -1,0 +1,3 @@
+-- The definitions of a scan's walk.
+pub mod Rows
+pub mod Walks
