@@ -14,30 +14,11 @@ use bitcask::answers::Stepped;
 use bitcask::read::get;
 use bitcask::read::scan_step;
 use keycode::Part;
-use keycode::Refusal;
+use keycode::number_of;
 use keycode::parts::clip;
 use recovery::Changed;
 use recovery::Used;
 use recovery::open;
-
-// Document 01, 'Numbers returned'.
-pub fn number_of(r: Refusal) -> u64 {
-    match r {
-        Refusal::Absent => 1,
-        Refusal::ReadOnly => 2,
-        Refusal::NotOpen => 3,
-        Refusal::KeyTooLong => 4,
-        Refusal::ValueTooLong => 5,
-        Refusal::Conflict => 6,
-        Refusal::LogFull => 7,
-        Refusal::TableFull => 8,
-        Refusal::TooManyOpen => 9,
-        Refusal::NoSuchVersion => 10,
-        Refusal::VersionsSpent => 11,
-        Refusal::BadStore => 12,
-        Refusal::BadRequest => 13,
-    }
-}
 
 fn wide(x: u32) -> usize {
     x as usize

@@ -1,10 +1,10 @@
 // The readings P6 to P9 of document 01, 'Bench readings', and openings at the edges, printed line by line: the log, the used length
 // and the table's size that were given, the answer, the live keys and the table's words.
-use crate::compare::number_of;
 use crate::show::show_bytes;
 use crate::show::show_number;
 use crate::show::show_size;
 use crate::show::show_text;
+use keycode::number_of;
 use recovery::Changed;
 use recovery::Used;
 use recovery::open;
@@ -39,7 +39,7 @@ fn keys(table: &[u32]) -> usize {
 fn show_answer(answer: Changed) {
     match answer {
         Changed::Done(u) => show_size(b": done, used ", u.len),
-        Changed::Refused(r) => show_number(b": refused with ", number_of(r)),
+        Changed::Refused(r) => show_number(b": refused with ", number_of(r) as u64),
     }
 }
 

@@ -1,5 +1,11 @@
 // The exported functions on keys.
 use crate::answers::told;
+use encoders::encode_next_version;
+use encoders::encode_txn_active;
+use encoders::encode_txn_active_snapshot;
+use encoders::encode_txn_write;
+use encoders::encode_unversioned;
+use encoders::encode_version;
 use keycode::Length;
 use keycode::Refusal;
 use keycode::number::put_number;
@@ -7,12 +13,6 @@ use keycode::unescape;
 use keys::Decoded;
 use keys::Key;
 use keys::decode;
-use encoders::encode_next_version;
-use encoders::encode_txn_active;
-use encoders::encode_txn_active_snapshot;
-use encoders::encode_txn_write;
-use encoders::encode_unversioned;
-use encoders::encode_version;
 ghost use mathlib.Core.Path.{_≡_};
 ghost use Prim.Native.Nat.{_≤_};
 ghost use lib.ListN.{length};

@@ -6,7 +6,7 @@ use crate::store::TABLE_WORDS;
 use crate::store::held;
 use crate::store::hold;
 use crate::store::same;
-use keycode::Refusal;
+use keycode::number_of;
 use mvcc::Begun;
 use recovery::Changed;
 use recovery::Used;
@@ -17,25 +17,6 @@ use spelling::names::SET;
 use spelling::show;
 use spelling::show::text;
 
-// Document 01, 'Numbers returned'.
-fn number_of(r: Refusal) -> u64 {
-    match r {
-        Refusal::Absent => 1,
-        Refusal::ReadOnly => 2,
-        Refusal::NotOpen => 3,
-        Refusal::KeyTooLong => 4,
-        Refusal::ValueTooLong => 5,
-        Refusal::Conflict => 6,
-        Refusal::LogFull => 7,
-        Refusal::TableFull => 8,
-        Refusal::TooManyOpen => 9,
-        Refusal::NoSuchVersion => 10,
-        Refusal::VersionsSpent => 11,
-        Refusal::BadStore => 12,
-        Refusal::BadRequest => 13,
-    }
-}
-
 fn numbered(s: Store, answer: Changed) -> Store {
     let mut t = s;
     match answer {
@@ -43,7 +24,7 @@ fn numbered(s: Store, answer: Changed) -> Store {
             t.used = u.len;
             t.number = 0;
         }
-        Changed::Refused(r) => t.number = number_of(r),
+        Changed::Refused(r) => t.number = number_of(r) as u64,
     }
     t
 }

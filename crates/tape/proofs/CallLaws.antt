@@ -89,7 +89,7 @@ module _ {w : World} (out : List ℕ) {out′ : List ℕ} where
       record {
         answers = givenBytes (q .command) (a .answer) (a .handle .version);
         so = subst (λ (i : ℕ). Started w slots q (worldOf log i t) slots′ (givenBytes (q .command) (a .answer) (a .handle .version))) (sym e)
-          (subst (λ (x : List ℕ). Started w slots q (worldOf log n t) x (givenBytes (q .command) (a .answer) (a .handle .version))) (sym f) (started a l s));
+            (subst (λ (x : List ℕ). Started w slots q (worldOf log n t) x (givenBytes (q .command) (a .answer) (a .handle .version))) (sym f) (started a l s));
         bytes = g;
         long = given-long (q .command) (a .answer) (a .handle .version);
       }
@@ -113,7 +113,7 @@ module _ {w : World} (out : List ℕ) {out′ : List ℕ} where
       record {
         answers = plainly (changedNumber a) (q .command);
         so = subst (λ (i : ℕ). Ended w h slots q (worldOf log i t) slots′ (plainly (changedNumber a) (q .command))) (sym e)
-          (subst (λ (x : List ℕ). Ended w h slots q (worldOf log n t) x (plainly (changedNumber a) (q .command))) (sym f) (ended a s));
+            (subst (λ (x : List ℕ). Ended w h slots q (worldOf log n t) x (plainly (changedNumber a) (q .command))) (sym f) (ended a s));
         bytes = g;
         long = changed-long (q .command) a;
       }

@@ -110,9 +110,9 @@ module _ (log spare : List ℕ) (used : Used) (t slots r : List ℕ) (room : ℕ
         let v : value ≡ valueIn r = ev ∙ ap (λ (i : Request). take (i .vlen) (drop valueAt r)) eq in
         lays-map
         (λ x p. good (eq-eqb (length r) recordLen long) (sym eb ∙ f)
-          (subst (λ (i : Request). Carried (benchOf false log spare (used .len) t slots) i (keyIn r) (valueIn r) room c x) eq
-            (subst (λ (i : List ℕ). Carried (benchOf false log spare (used .len) t slots) q (keyIn r) i room c x) v
-              (subst (λ (i : List ℕ). Carried (benchOf false log spare (used .len) t slots) q i value room c x) k p))))
+        (subst (λ (i : Request). Carried (benchOf false log spare (used .len) t slots) i (keyIn r) (valueIn r) room c x) eq
+        (subst (λ (i : List ℕ). Carried (benchOf false log spare (used .len) t slots) q (keyIn r) i room c x) v
+        (subst (λ (i : List ℕ). Carried (benchOf false log spare (used .len) t slots) q i value room c x) k p))))
         l
 
 -- ---- the buffers as they were lent
@@ -137,19 +137,19 @@ bench-flip false first second used t slots = refl
 module _ (l : Lent) (used : ℕ) {other : Bool} (r : List ℕ) (l′ : Lent) (h : recordLen ≤ length (l .out)) (e : length (l .slots) ≡ allWords) (a : Turn) where
   pub take-first : other ≡ false
       → Lays (Turned (benchOf false (l .first) (l .second) used (l .table) (l .slots)) r (length (l .out) / recordLen) (benchOf (a .other) (l′ .first) (l′ .second) (a .used .len) (l′ .table) (l′ .slots)))
-        (l .out) (a .len) (l′ .out)
+      (l .out) (a .len) (l′ .out)
       → Takes l used other r (Took.Done a) l′
   take-first o p =
       subst (λ (b : Bool). Takes l used b r (Took.Done a) l′) (sym o) (record { well = well-lent l h e; turn = p })
 
   pub take-second : other ≡ true
       → Lays (Turned (benchOf false (l .second) (l .first) used (l .table) (l .slots)) r (length (l .out) / recordLen) (benchOf (a .other) (l′ .second) (l′ .first) (a .used .len) (l′ .table) (l′ .slots)))
-        (l .out) (a .len) (l′ .out)
+      (l .out) (a .len) (l′ .out)
       → Takes l used other r (Took.Done (record { used = a .used; other = not (a .other); len = a .len })) l′
   take-second o p =
       subst (λ (b : Bool). Takes l used b r (Took.Done (record { used = a .used; other = not (a .other); len = a .len })) l′) (sym o)
       (record {
         well = well-lent l h e;
         turn = subst (λ (b : Bench). Lays (Turned (benchOf true (l .first) (l .second) used (l .table) (l .slots)) r (length (l .out) / recordLen) b) (l .out) (a .len) (l′ .out))
-          (bench-flip (a .other) (l′ .first) (l′ .second) (a .used .len) (l′ .table) (l′ .slots)) p;
+            (bench-flip (a .other) (l′ .first) (l′ .second) (a .used .len) (l′ .table) (l′ .slots)) p;
       })

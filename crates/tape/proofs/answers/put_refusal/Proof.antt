@@ -8,7 +8,7 @@ use Rattle.tape.proofs.answers.put_refusal.Tie as tie
 use Rattle.tape.proofs.answers.put_refusal.Reads as reads
 use Rattle.tape.proofs.answers.put_refusal.Lts as lts
 use Rattle.tape_record.proofs.layout.put_plain.Reads as put-plain-reads
-use Rattle.tape_record.proofs.number.number_of.Reads as number-of-reads
+use Rattle.keycode.proofs.refusal.number_of.Reads as number-of-reads
 
 -- src/answers.rt:40:9
 number-of-requires : tie.Need-number-of-requires

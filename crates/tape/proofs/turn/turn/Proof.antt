@@ -13,13 +13,16 @@ returns : tie.Need-returns
 returns c = let a = c .before .before .before .before .before .before .before .before .before .before .before .before .args in turn-short (a .log .now) (a .spare .now) (a .used) (a .table .now) (a .slots .now) (a .bytes .now) _ (a .out .now) _ (c .before .before .before .before .before .if1 .taken) (c .before .before .before .put-plain .ensures) (c .one-answer .ensures)
 
 carry-requires : tie.Need-carry-requires
-carry-requires c κs = 
+carry-requires c κs =
     let a = c .before .before .before .before .before .before .before .before .before .before .before .before .before .before .before .before .before .before .args in
     let e = sym (c .before .before .before .before .before .before .before .before .admitted .ensures) ∙ c .before .before .before .before .before .before .before .if2 .taken in
-    let q = sym (c .before .before .before .before .before .before .before .before .before .before .fields .ensures) in
-    (c .before .before .before .before .before .before .before .before .before .before .before .before .before .before .before .before .before .before .pre .0, c .before .before .before .before .before .before .before .before .before .before .before .before .before .before .before .before .before .before .pre .1, subst (λ (i : Request). i .slot < 16) q (slot-below (a .bytes .now) (a .slots .now) e),
-    subst (λ (i : Request). 1 ≤ i .command) q (command-least (a .bytes .now) (a .slots .now) e),
-    subst (λ (i : Request). i .command ≤ 11) q (command-most (a .bytes .now) (a .slots .now) e))
+    let q = sym (c .before .before .before .before .before .before .before .before .before .before .fields .ensures) in (
+      c .before .before .before .before .before .before .before .before .before .before .before .before .before .before .before .before .before .before .pre .0,
+      c .before .before .before .before .before .before .before .before .before .before .before .before .before .before .before .before .before .before .pre .1,
+      subst (λ (i : Request). i .slot < 16) q (slot-below (a .bytes .now) (a .slots .now) e),
+      subst (λ (i : Request). 1 ≤ i .command) q (command-least (a .bytes .now) (a .slots .now) e),
+      subst (λ (i : Request). i .command ≤ 11) q (command-most (a .bytes .now) (a .slots .now) e),
+    )
 
 returns-2 : tie.Need-returns-2
 returns-2 c = let a = c .before .before .before .before .before .before .before .before .before .before .before .before .before .before .before .before .before .before .before .before .before .before .before .before .before .before .before .before .before .args in turn-good (a .log .now) (a .spare .now) (a .used) (a .table .now) (a .slots .now) (a .bytes .now) _ (a .out .now) _ (c .before .before .before .before .before .before .before .before .before .before .before .before .before .before .before .before .before .before .before .before .before .fields .result) (omega (arith, c .before .before .before .before .before .before .before .before .before .before .before .before .before .before .before .before .before .before .before .before .before .before .if1 .left)) (c .before .before .before .before .before .before .before .before .before .before .before .before .before .before .before .before .before .before .before .before .before .fields .ensures) (c .before .before .before .before .before .before .before .before .before .before .before .before .before .before .before .before .before .before .before .admitted .ensures) (c .before .before .before .before .before .before .before .before .before .before .before .before .before .before .before .before .before .before .if2 .taken) (c .before .before .before .before .before .before .before .before .before .before .before .before .before .before .before .before .before .clip .ensures) (c .before .before .before .before .before .before .before .before .before .before .before .before .before .before .before .before .clip2 .ensures) (c .before .before .before .before .before .before .before .before .before .before .carry .ensures)
