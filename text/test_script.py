@@ -8,6 +8,8 @@ from record import COMMANDS, MOST, PLACES, Record, request_words
 from script import read_script
 
 SAMPLES = pathlib.Path(__file__).resolve().parent.parent / "samples"
+CASES = pathlib.Path(__file__).resolve().parent / "cases"
+BENCH = pathlib.Path(__file__).resolve().parent.parent / "crates/bench"
 
 
 def laid(*parts):
@@ -80,11 +82,13 @@ class Making(unittest.TestCase):
         self.assertEqual(key_of(b'get 0 "0x61"'), b"0x61")
         self.assertEqual(key_of(b"get 0 0X61"), b"0X61")
 
-    def test_the_sample_tape_is_the_script_s(self):
-        items, faults = read_script((SAMPLES / "bulletins.txt").read_bytes())
-        self.assertEqual(faults, [])
-        tape = b"".join(item for item in items if isinstance(item, bytes))
-        self.assertEqual(tape, (SAMPLES / "bulletins.tape").read_bytes())
+    def test_stored_tapes_are_their_scripts(self):
+        """The sample, and the tape that the bench program's stored run has."""
+        stored = ((SAMPLES / "bulletins.txt", SAMPLES / "bulletins.tape"), (CASES / "bench.txt", BENCH / "stdin"))
+        for script, tape in stored:
+            items, faults = read_script(script.read_bytes())
+            self.assertEqual(faults, [])
+            self.assertEqual(b"".join(item for item in items if isinstance(item, bytes)), tape.read_bytes())
 
 
 class Faults(unittest.TestCase):

@@ -1,6 +1,6 @@
 -- What is known of a record that is not bad: its command, its slot, and how the slot stands. Assumes nothing.
 use Prim.Native.Nat.{ℕ, _≤_, _<_}
-use mathlib.Core.Path.{_≡_, refl, sym, ap, _∙_}
+use mathlib.Core.Path.{_≡_, refl, ap, _∙_}
 use mathlib.Core.Bool.{Bool, true, false, not}
 use mathlib.Core.List.{List}
 use native.Mathlib.Omega.{arith}
@@ -8,7 +8,7 @@ use lib.Dec.{leb}
 use borrow.Author.Tests.{leb-true, le-leb, lt-leb}
 use Rattle.keycode.specs.Tests.{pick}
 use Rattle.tape_record.specs.declared.request.Request.{Request}
-use Rattle.tape_record.specs.Requests.{fieldsOf, between, slotMost, keyMost, valueMost, versionMost, modest, cleared, proper}
+use Rattle.tape_record.specs.Requests.{fieldsOf, between, slotMost, modest, proper}
 use Rattle.tape_record.specs.Slots.{filled, slotFits}
 use Rattle.isolation.specs.World.{World}
 use Rattle.tape.specs.Turns.{Held, looking, writing, scanning, ending, admitted}

@@ -11,22 +11,16 @@ use borrow.Author.Tests.{le-leb, lt-leb, leb-true}
 use Rattle.keycode.specs.Tests.{pick}
 use Rattle.keycode.specs.Buffer.{put}
 use Rattle.keycode.specs.Refusals.{numberOf}
-use Rattle.keycode.specs.declared.parts.Part.{Part}
-use Rattle.keycode.specs.declared.refusal.Refusal.{Refusal}
-use Rattle.recovery.specs.declared.request.Used.{Used}
 use Rattle.recovery.specs.declared.request.Changed.{Changed}
 use Rattle.recovery.specs.declared.request.Changed.the-variants.{Done, Refused}
 use Rattle.recovery.specs.Promises.{changedNumber}
 use Rattle.bitcask.specs.declared.answers.Located.{Located}
 use Rattle.bitcask.specs.declared.answers.Located.the-variants as Got
-use Rattle.compaction.specs.declared.status.Counts.{Counts}
 use Rattle.compaction.specs.declared.status.Counted.{Counted}
 use Rattle.compaction.specs.declared.status.Counted.the-variants as Count
-use Rattle.handle.specs.declared.handle.Handle.{Handle}
 use Rattle.tape_record.specs.Layout.{recordLen, valueRoom, laid, plainly}
-use Rattle.tape_record.specs.Slots.{fill, empty}
 use Rattle.tape_record.proofs.LayoutLaws.{laid-long, plainly-long}
-use Rattle.tape.specs.Answers.{bytesAt, givenBytes, filledWith, valueBytes, gotBytes, emptiedBy, usedBytes, countBytes}
+use Rattle.tape.specs.Answers.{bytesAt, givenBytes, valueBytes, gotBytes, usedBytes, countBytes}
 
 -- ---- what is laid
 

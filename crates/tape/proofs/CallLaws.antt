@@ -1,17 +1,14 @@
 -- Laws of the commands: the call that each makes is a step of the world, and its record stands at the front of the lent buffer.
 -- Assumes nothing.
 use Prim.Native.Nat.{ℕ}
-use mathlib.Core.Path.{_≡_, refl, sym, ap, _∙_, subst}
-use mathlib.Core.Bool.{Bool, true, false}
+use mathlib.Core.Path.{_≡_, sym, _∙_, subst}
+use mathlib.Core.Bool.{Bool}
 use mathlib.Core.Option.{none, some}
 use mathlib.Core.List.{List}
 use lib.ListN.{length}
-use lib.Dec.{eqb}
 use borrow.Author.Tests.{eq-eqb, ne-eqb}
-use Rattle.keycode.specs.Tests.{pick}
 use Rattle.keycode.specs.Buffer.{put}
 use Rattle.keycode.specs.Limits.{maxOpen}
-use Rattle.recovery.specs.declared.request.Used.{Used}
 use Rattle.recovery.specs.declared.request.Changed.{Changed}
 use Rattle.recovery.specs.Promises.{changedNumber}
 use Rattle.bitcask.specs.declared.answers.Located.{Located}
@@ -26,7 +23,7 @@ use Rattle.mvcc_past.specs.Promises.{BeginsAsOf}
 use Rattle.mvcc_read.specs.Promises.{Gets}
 use Rattle.mvcc_write.specs.Promises.{Writes}
 use Rattle.mvcc_end.specs.Promises.{Commits, RollsBack}
-use Rattle.isolation.specs.World.{World, begins, beginsReading, beginsAsOf, gets, sets, deletes, commits, rollsBack, counts, usedBy, isDone, Step, beginning, beginningReading, beginningAsOf, getting, setting, deleting, committing, rollingBack, counting}
+use Rattle.isolation.specs.World.{World, usedBy, isDone, Step, beginning, beginningReading, beginningAsOf, getting, setting, deleting, committing, rollingBack, counting}
 use Rattle.tape_record.specs.declared.request.Request.{Request}
 use Rattle.tape_record.specs.Layout.{recordLen, plainly}
 use Rattle.tape.specs.Answers.{givenBytes, filledWith, gotBytes, emptiedBy, usedBytes, countBytes}

@@ -1,10 +1,10 @@
 -- What a tape does is a run of crate isolation: the calls that its records make are those of a run, each with a handle that the store
 -- gave. So the theorems of snapshot isolation hold of it. Assumes nothing.
-use Prim.Native.Nat.{ℕ, _+_, _<_, _≤_}
+use Prim.Native.Nat.{ℕ, _<_}
 use mathlib.Core.Path.{_≡_, refl, sym, ap, _∙_, subst}
-use mathlib.Core.Bool.{Bool, true, false, not}
+use mathlib.Core.Bool.{Bool, true, false}
 use mathlib.Core.Option.{Option, none, some}
-use mathlib.Core.List.{List, [], _∷_}
+use mathlib.Core.List.{List, _∷_}
 use native.Mathlib.Omega.{arith}
 use native.Mathlib.Decide.{ℕ-discrete}
 use lib.Dec.{eqb}
@@ -17,13 +17,13 @@ use Rattle.recovery.specs.Promises.{changedNumber}
 use Rattle.handle.specs.declared.handle.Handle.{Handle}
 use Rattle.txn.specs.declared.begun.Begun.{Begun}
 use Rattle.history.specs.History.{After, now, later}
-use Rattle.isolation.specs.World.{World, Call, Calls, begins, beginsReading, beginsAsOf, gets, sets, deletes, scansPrefix, commits, rollsBack, compacts, counts, usedBy, isDone, Step, compacting, Given, by-begin, by-reading, by-asOf, handleIn, Fair, Run, called}
+use Rattle.isolation.specs.World.{World, Call, Calls, begins, beginsReading, beginsAsOf, gets, sets, deletes, scansPrefix, commits, rollsBack, compacts, counts, Step, compacting, Given, by-begin, by-reading, by-asOf, handleIn, Fair, Run, called}
 use Rattle.tape_record.specs.declared.request.Request.{Request}
-use Rattle.tape_record.specs.Requests.{fieldsOf, keyIn, valueIn}
+use Rattle.tape_record.specs.Requests.{fieldsOf}
 use Rattle.tape_record.specs.Slots.{allWords, filled, handleAt, fill, empty}
 use Rattle.tape_record.proofs.SlotLaws.{slot-back, length-fill, length-empty, handle-fill-other, filled-fill-other, handle-empty-other, filled-empty-other, filled-empty}
 use Rattle.tape.specs.Answers.{filledWith, emptiedBy}
-use Rattle.tape.specs.Turns.{startCall, writeCall, endCall, Started, started, Looked, looked, Written, written, Scanned, ends, goes, Ended, ended, Tidied, tidied, Told, told, Held, looking, writing, scanning, ending, Bench, worldOf, benchOf, Carried, starting, holding, tidying, telling, admitted, Turned, short, bad, good}
+use Rattle.tape.specs.Turns.{startCall, writeCall, endCall, Started, started, Looked, looked, Written, written, Scanned, ends, goes, Ended, ended, Tidied, tidied, Told, told, Held, looking, writing, scanning, ending, Bench, benchOf, starting, holding, tidying, telling, Turned, short, bad, good}
 use Rattle.tape.proofs.AdmitLaws.{slot-below, slot-filled, held-commands}
 
 -- sixteen slots, and each filled one has a handle that one of the calls gave

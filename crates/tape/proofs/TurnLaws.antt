@@ -6,14 +6,11 @@ use mathlib.Core.Bool.{Bool, true, false, not}
 use mathlib.Core.List.{List, []}
 use native.Mathlib.Omega.{arith}
 use lib.ListN.{length, take, drop}
-use lib.Dec.{eqb, leb}
 use borrow.Author.Tests.{eq-eqb, ne-eqb, le-leb, lt-leb}
-use Rattle.keycode.specs.Tests.{pick}
 use Rattle.keycode.specs.Buffer.{put}
 use Rattle.keycode.specs.declared.refusal.Refusal.the-variants.{BadRequest}
 use Rattle.recovery.specs.declared.request.Used.{Used}
 use Rattle.handle.specs.declared.handle.Handle.{Handle}
-use Rattle.isolation.specs.World.{World}
 use Rattle.tape_record.specs.declared.request.Request.{Request}
 use Rattle.tape_record.specs.Layout.{recordLen, keyAt, valueAt, plainly}
 use Rattle.tape_record.specs.Requests.{fieldsOf, keyIn, valueIn}

@@ -1,25 +1,21 @@
 -- Two results of one record of a tape, where the table agrees with the log, are one: the store, the handle slots and every byte of the
 -- answers. Assumes nothing.
-use Prim.Native.Nat.{ℕ, _+_, _≤_}
+use Prim.Native.Nat.{ℕ, _+_}
 use mathlib.Core.Path.{_≡_, refl, sym, ap, _∙_, subst}
 use mathlib.Core.Bool.{Bool, true, false}
-use mathlib.Core.List.{List, [], _++_}
+use mathlib.Core.List.{List, _++_}
 use native.Mathlib.Omega.{arith}
 use Rattle.keycode.specs.Tests.{pick}
 use Rattle.recovery.specs.declared.request.Changed.{Changed}
 use Rattle.recovery.specs.Agree.{Agrees}
 use Rattle.recovery.specs.Promises.{changedNumber}
-use Rattle.bitcask.specs.declared.answers.Located.{Located}
-use Rattle.bitcask.specs.declared.answers.Stepped.{Stepped}
-use Rattle.compaction.specs.declared.status.Counted.{Counted}
 use Rattle.compaction.proofs.CompactUnique.{compacts-unique}
 use Rattle.handle.specs.declared.handle.Handle.{Handle}
 use Rattle.txn.specs.declared.begun.Begun.{Begun}
 use Rattle.isolation.specs.World.{World, usedBy, isDone}
 use Rattle.tape_record.specs.declared.request.Request.{Request}
 use Rattle.tape_record.specs.Layout.{laid, plainly}
-use Rattle.tape_record.specs.Requests.{fieldsOf, keyIn, valueIn}
-use Rattle.tape.specs.Answers.{givenBytes, filledWith, gotBytes, Shown, pair, last, shown, emptiedBy, usedBytes, countBytes}
+use Rattle.tape.specs.Answers.{givenBytes, filledWith, gotBytes, pair, last, shown, emptiedBy, usedBytes, countBytes}
 use Rattle.tape.specs.Turns.{Started, started, Looked, looked, Written, written, Scanned, ends, goes, Ended, ended, Tidied, tidied, Told, told, Held, looking, writing, scanning, ending, Bench, benchOf, Carried, starting, holding, tidying, telling, Turned, short, bad, good}
 use Rattle.tape.proofs.AdmitLaws.{held-commands}
 use Rattle.tape.proofs.UniqueSteps.{start-unique, look-unique, write-unique, step-unique, end-unique, count-unique}

@@ -1,6 +1,6 @@
 -- Two results of one call that a tape makes, where the table agrees with the log, are one. Assumes nothing.
 use Prim.Native.Nat.{ℕ}
-use mathlib.Core.Path.{_≡_, refl, sym, ap, _∙_}
+use mathlib.Core.Path.{_≡_, sym, ap, _∙_}
 use mathlib.Core.Bool.{Bool, true, false}
 use mathlib.Core.List.{List}
 use lib.Dec.{eqb}
@@ -21,7 +21,7 @@ use Rattle.mvcc_write.proofs.Unique.{writes-answer, writes-log, writes-table}
 use Rattle.mvcc_scan.proofs.Unique.{scans-unique}
 use Rattle.mvcc_end.proofs.Unique.{commit-unique}
 use Rattle.mvcc_end.proofs.RollbackUnique.{rollback-unique}
-use Rattle.isolation.specs.World.{World, Call, begins, beginsReading, beginsAsOf, gets, sets, deletes, scansPrefix, commits, rollsBack, counts, changedTo, Step}
+use Rattle.isolation.specs.World.{World, begins, beginsReading, beginsAsOf, gets, sets, deletes, scansPrefix, commits, rollsBack, counts, changedTo, Step}
 use Rattle.tape.specs.Turns.{startCall, writeCall, endCall}
 use Rattle.tape.proofs.MeantLaws.{Means, means}
 

@@ -1,6 +1,6 @@
 -- The answer records of a tape, as bytes, of what the calls answered. Document 01, 'Tape'. Assumes nothing.
 use Prim.Native.Nat.{ℕ, _+_}
-use mathlib.Core.Bool.{Bool, true, false}
+use mathlib.Core.Bool.{Bool}
 use mathlib.Core.List.{List, []}
 use lib.ListN.{length, take, drop}
 use lib.Dec.{eqb, leb, ltb}
@@ -8,7 +8,6 @@ use Rattle.keycode.specs.Tests.{pick}
 use Rattle.keycode.specs.Refusals.{numberOf}
 use Rattle.keycode.specs.Strings.{unescaped, plainLength}
 use Rattle.keycode.specs.declared.parts.Part.{Part}
-use Rattle.keycode.specs.declared.refusal.Refusal.{Refusal}
 use Rattle.keycode.specs.declared.refusal.Length.{Length}
 use Rattle.keycode.specs.declared.refusal.Length.the-variants as Long
 use Rattle.recovery.specs.declared.request.Changed.{Changed}
@@ -19,7 +18,6 @@ use Rattle.bitcask.specs.declared.answers.Stepped.{Stepped}
 use Rattle.bitcask.specs.declared.answers.Stepped.the-variants as Step
 use Rattle.compaction.specs.declared.status.Counted.{Counted}
 use Rattle.compaction.specs.declared.status.Counted.the-variants as Count
-use Rattle.txn.specs.declared.begun.Begun.{Begun}
 use Rattle.handle.specs.declared.handle.Handle.{Handle}
 use Rattle.tape_record.specs.Layout.{valueRoom, laid, plainly}
 use Rattle.tape_record.specs.Slots.{fill, empty}

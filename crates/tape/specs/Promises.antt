@@ -11,7 +11,6 @@ use Rattle.keycode.specs.Buffer.{put}
 use Rattle.keycode.specs.declared.refusal.Refusal.the-variants.{BadRequest}
 use Rattle.tape_record.specs.Layout.{recordLen}
 use Rattle.tape_record.specs.Slots.{allWords}
-use Rattle.tape.specs.declared.state.Turn.{Turn}
 use Rattle.tape.specs.declared.state.Taken.{Taken}
 use Rattle.tape.specs.declared.state.Taken.the-variants as Took
 use Rattle.tape.specs.Turns.{benchOf, Turned}

@@ -9,7 +9,6 @@ use lib.Dec.{eqb}
 use Rattle.keycode.specs.Tests.{pick}
 use Rattle.keycode.specs.Limits.{maxOpen}
 use Rattle.recovery.specs.declared.request.Changed.{Changed}
-use Rattle.recovery.specs.declared.request.Changed.the-variants.{Done, Refused}
 use Rattle.recovery.specs.Promises.{changedNumber}
 use Rattle.bitcask.specs.declared.answers.Located.{Located}
 use Rattle.bitcask.specs.declared.answers.Stepped.{Stepped}
@@ -22,7 +21,7 @@ use Rattle.tape_record.specs.declared.request.Request.{Request}
 use Rattle.tape_record.specs.Layout.{recordLen, laid, plainly}
 use Rattle.tape_record.specs.Requests.{fieldsOf, keyIn, valueIn, proper}
 use Rattle.tape_record.specs.Slots.{filled, slotFits, handleAt}
-use Rattle.tape.specs.Answers.{givenBytes, filledWith, gotBytes, Shown, pair, last, shown, emptiedBy, usedBytes, countBytes}
+use Rattle.tape.specs.Answers.{givenBytes, filledWith, gotBytes, pair, last, shown, emptiedBy, usedBytes, countBytes}
 
 -- ---- the calls that a command makes
 

@@ -27,7 +27,6 @@ ghost use mathlib.Core.Bool.{true, false};
 ghost use Prim.Native.Nat.{_/_, _≤_, _<_};
 ghost use lib.ListN.{length};
 ghost use Rattle.tape_record.specs.Layout.{recordLen};
-ghost use Rattle.tape_record.specs.Requests.{fieldsOf, keyIn, valueIn};
 ghost use Rattle.tape_record.specs.Slots.{allWords, slotFits};
 ghost use Rattle.tape.specs.Turns.{worldOf, benchOf, Held, Carried, admitted as admittedBy, Turned};
 ghost use Rattle.tape.specs.Promises.{Lays, Takes};

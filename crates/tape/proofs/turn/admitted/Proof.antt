@@ -1,6 +1,6 @@
 -- `admitted` tests the layout, then the slot.
-use mathlib.Core.Path.{_∙_, sym, ap, subst}
-use Prim.Native.Nat.{ℕ, _<_}
+use mathlib.Core.Path.{_∙_, sym, subst}
+use Prim.Native.Nat.{_<_}
 use Rattle.tape_record.specs.declared.request.Request.{Request}
 use Rattle.tape.proofs.AdmitLaws.{admit-not, admit-so, proper-slot}
 use borrow.Author.Needs.{needs}
