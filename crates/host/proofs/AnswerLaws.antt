@@ -90,8 +90,8 @@ unescape-gives s d w q = gives (intoRoom (plainLength s) (length d)) (unescaped 
 
 -- ---- decoding
 
-pub split-is : (k : Key) {j : Key} → k ≡ j → split j ≡ split k
-split-is k e = ap split (sym e)
+pub split-is : (k : Key) {j : Key} {s : Split} → k ≡ j → s ≡ split j → s ≡ split k
+split-is k e f = f ∙ ap split (sym e)
 
 pub lay-is : (kind v at len : ℕ) (d d₁ d₂ d₃ : List ℕ) → fieldCount ≤ length d → d₁ ≡ put (set d 0 kind) 1 (be 8 v) → d₂ ≡ put d₁ 9 (be 8 at) → d₃ ≡ put d₂ 17 (be 8 len)
     → d₃ ≡ put d 0 (laidOut kind v at len)

@@ -1,4 +1,5 @@
-// The exported functions on keys.
+// The exported functions on keys. Each makes the call of crate keys or keycode and packs its answer; decoding lays the key's fields into
+// the lent buffer.
 use crate::answers::told;
 use encoders::encode_next_version;
 use encoders::encode_txn_active;
@@ -80,47 +81,28 @@ struct Split {
     len: usize,
 }
 
+fn four(kind: u8, version: u64, at: usize, len: usize) -> Split
+    ensures { λ r. ⌜ r ≡ record { kind = kind; version = version; at = at; len = len } ⌝ }
+{
+    Split {
+        kind,
+        version,
+        at,
+        len,
+    }
+}
+
 // A field that a kind does not have is 0.
 fn split_up(key: Key) -> Split
     ensures { λ r. ⌜ r ≡ split key ⌝ }
 {
     match key {
-        Key::NextVersion => Split {
-            kind: 0,
-            version: 0,
-            at: 0,
-            len: 0,
-        },
-        Key::TxnActive(v) => Split {
-            kind: 1,
-            version: v,
-            at: 0,
-            len: 0,
-        },
-        Key::TxnActiveSnapshot(v) => Split {
-            kind: 2,
-            version: v,
-            at: 0,
-            len: 0,
-        },
-        Key::TxnWrite(v, p) => Split {
-            kind: 3,
-            version: v,
-            at: p.at,
-            len: p.len,
-        },
-        Key::Version(p, v) => Split {
-            kind: 4,
-            version: v,
-            at: p.at,
-            len: p.len,
-        },
-        Key::Unversioned(p) => Split {
-            kind: 5,
-            version: 0,
-            at: p.at,
-            len: p.len,
-        },
+        Key::NextVersion => four(0, 0, 0, 0),
+        Key::TxnActive(v) => four(1, v, 0, 0),
+        Key::TxnActiveSnapshot(v) => four(2, v, 0, 0),
+        Key::TxnWrite(v, p) => four(3, v, p.at, p.len),
+        Key::Version(p, v) => four(4, v, p.at, p.len),
+        Key::Unversioned(p) => four(5, 0, p.at, p.len),
     }
 }
 
