@@ -77,7 +77,7 @@ fn times(call: usize, keys: u64) -> (u64, u64) {
         "get" => (100_000, 1_000),
         "set" | "set, commit" => (1_000, 1_000),
         "scan" => (100_000 / keys, 1),
-        _ => (100_000 / keys, 4),
+        _ => (500_000 / keys, 4),
     }
 }
 
@@ -94,7 +94,7 @@ struct Cost {
 }
 
 /// Processor time is told in steps of some milliseconds: a shorter difference says nothing.
-const LEAST_SECONDS: f64 = 0.01;
+const LEAST_SECONDS: f64 = 0.005;
 
 fn cost(side: &Side, call: usize, keys: u64, bytes: &[u8]) -> Cost {
     let (many, counted) = times(call, keys);
