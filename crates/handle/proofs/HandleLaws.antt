@@ -1,5 +1,5 @@
--- Laws of sets of versions and of handles: the turns of the loops over a set, what each method answers, handles that the store makes,
--- and document 01's reading P11. Assumes nothing.
+-- Laws of sets of versions and of handles: the turns of the loops over a set, what each method answers, and handles that the store
+-- makes. Assumes nothing.
 use Prim.Native.Nat.{ℕ, zero, suc, _+_, _-_, _^_, _<_, _≤_, min}
 use mathlib.Core.Path.{_≡_, refl, sym, ap, _∙_}
 use mathlib.Core.Bool.{Bool, true, false}
@@ -157,10 +157,3 @@ made-count v ro vs = refl
 pub made-sound : (v : ℕ) (ro : Bool) (vs : List ℕ) → length vs ≤ maxOpen → soundHandle (handleOf v ro vs) ≡ rising vs
 unfolding soundHandle
 made-sound v ro vs h = rw (made-set v ro vs h, made-count v ro vs, le-leb (length vs) maxOpen h)
-
--- ---- document 01's reading P11
-
-pub p11 : (sees (handleOf 5 false (3 ∷ [])) 4 ≡ true) × (sees (handleOf 5 false (3 ∷ [])) 5 ≡ true) × (sees (handleOf 5 false (3 ∷ [])) 3 ≡ false)
-    × (sees (handleOf 5 false (3 ∷ [])) 6 ≡ false) × (sees (handleOf 5 true (3 ∷ [])) 4 ≡ true) × (sees (handleOf 5 true (3 ∷ [])) 5 ≡ false)
-unfolding sees setOf memb handleOf
-p11 = (refl, refl, refl, refl, refl, refl)
