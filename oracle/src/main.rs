@@ -88,6 +88,8 @@ fn main() {
             std::process::exit(2);
         }
     };
-    let _ = std::fs::remove_file(scratch());
+    for extension in ["log", "other", "new"] {
+        let _ = std::fs::remove_file(scratch().with_extension(extension));
+    }
     std::process::exit(if fine { 0 } else { 1 });
 }
