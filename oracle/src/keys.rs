@@ -102,7 +102,7 @@ pub fn all(over: &[u8], len: usize) -> Vec<Vec<u8>> {
     strings
 }
 
-/// All keys to three bytes, all strings to five, and the limits.
+/// All keys to three bytes, all strings to five, every byte behind a 00, and the limits.
 pub fn exhaustive() -> Vec<Request> {
     let mut out = Vec::new();
     for user in all(&[0, 1, b'a', 0xff], 3) {
@@ -125,6 +125,12 @@ pub fn exhaustive() -> Vec<Request> {
     }
     for bytes in all(&[0, 1, 2, 3, 4, 5, 6, 0xff], 5) {
         decode(&bytes, &mut out);
+    }
+    for b in 0..=255 {
+        decode(&[b], &mut out);
+        decode(&[5, 0, b, 0, 0], &mut out);
+        decode(&[3, 0, 0, 0, 0, 0, 0, 0, 1, b, 0, b, b'a', 0, 0], &mut out);
+        out.push(unescape(&[b'a', 0, b], 64));
     }
     for escaped in all(&[0, 1, b'a', 0xff], 6) {
         out.push(unescape(&escaped, escaped.len() / 2));
@@ -150,7 +156,7 @@ fn spoil(random: &mut Random, bytes: &mut Vec<u8>) {
         _ if bytes.is_empty() => {}
         2 => {
             let i = random.below(bytes.len());
-            bytes[i] = *random.pick(&[0, 0xff, 1, 4, 5, 6]);
+            bytes[i] = *random.pick(&[0, 0xff, 0xfe, 1, 4, 5, 6]);
         }
         3 => {
             let i = random.below(bytes.len());

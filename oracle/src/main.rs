@@ -64,9 +64,10 @@ fn run_script() -> bool {
 }
 
 fn main() {
-    // A scan with crossed bounds panics in toydb and is caught: no word of it.
+    // Panics that are caught: a scan with crossed bounds in toydb, and a script that lost a line it leans on. No word of them.
     std::panic::set_hook(Box::new(|info| {
-        if !info.to_string().contains("BTree") {
+        let caught = ["BTree", "the log is shorter", "not there to lend", "leaves no store", "only an opening"];
+        if !caught.iter().any(|text| info.to_string().contains(text)) {
             eprintln!("{info}");
         }
     }));
@@ -87,6 +88,8 @@ fn main() {
             std::process::exit(2);
         }
     };
-    let _ = std::fs::remove_file(scratch());
+    for extension in ["log", "other", "new"] {
+        let _ = std::fs::remove_file(scratch().with_extension(extension));
+    }
     std::process::exit(if fine { 0 } else { 1 });
 }

@@ -151,8 +151,10 @@ fn random_bytes(random: &mut Random) -> Vec<u8> {
 
 pub fn tape(kind: &str, seed: u64) -> Vec<u8> {
     let mut random = Random::new(seed);
-    if kind == "random bytes" {
-        return random_bytes(&mut random);
+    match kind {
+        "random bytes" => return random_bytes(&mut random),
+        "empty" => return Vec::new(),
+        _ => {}
     }
     let shape = shape(kind, &mut random);
     let mut filled = [false; 16];
