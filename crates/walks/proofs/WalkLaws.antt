@@ -1,12 +1,13 @@
 -- The walk over records, by what the code has learnt of each. Assumes nothing.
 use Prim.Native.Nat.{ℕ, _+_, _≤_, _<_}
-use mathlib.Core.Path.{_≡_, sym, ap, _∙_}
+use mathlib.Core.Path.{_≡_, refl, sym, ap, _∙_}
 use mathlib.Core.Bool.{Bool, true, false}
 use mathlib.Core.List.{List, [], _∷_}
 use native.Mathlib.Omega.{arith}
 use native.Mathlib.Numerals.{add-one}
 use lib.ListN.{length, take, getD, drop-of-length-le, length-take}
 use lib.Seq.{drop-cons, getD-take, length-take-le}
+use Rattle.keycode.specs.Tests.{pick}
 use Rattle.keycode.specs.Order.{compareBytes}
 use Rattle.keycode.specs.declared.order.Order.{Order}
 use Rattle.keycode.specs.declared.parts.Part.{Part}
@@ -22,9 +23,9 @@ use Rattle.walks.specs.declared.rows.Held.{Held}
 use Rattle.walks.specs.declared.rows.Row.{Row}
 use Rattle.walks.specs.declared.rows.Row.the-variants.{Good}
 use Rattle.walks.specs.declared.walk.Walk.{Walk}
-use Rattle.walks.specs.declared.walk.Walk.the-variants.{Start, Within, Over}
+use Rattle.walks.specs.declared.walk.Walk.the-variants.{Start, Within, Broken, Over}
 use Rattle.walks.specs.Rows.{rowIn}
-use Rattle.walks.specs.Walks.{isEqual, partOf, sameString, laterHeld, heldAnswer, closedBy, withinBy, brokenBy, nextWalk, endedBy, walkIn, stepIn}
+use Rattle.walks.specs.Walks.{isEqual, partOf, sameString, laterHeld, heldAnswer, closedBy, withinBy, brokenBy, nextWalk, endedBy, isOver, walkIn, stepIn}
 
 -- ---- one record more
 
@@ -61,7 +62,19 @@ slice-none ss i t h = drop-of-length-le (take t ss) {i = i} (rw (length-take t s
 pub record Walking (h : Handle) (log t : List ℕ) (n from to : ℕ) (w : Walk) (i : ℕ) : Type 0 where
   pub same : walkIn h log Start (slice from to (slotsOf n t)) ≡ walkIn h log w (slice i to (slotsOf n t))
 
+over-stays : (h : Handle) (log : List ℕ) (w : Walk) (ss : List Slot) → isOver w ≡ true → walkIn h log w ss ≡ w
+unfolding walkIn
+over-stays h log w [] e = refl
+over-stays h log Start (s ∷ ss) e = let z : _≡_ {A = ℕ} 0 1 = ap (λ (b : Bool). pick b 1 0) e in absurd (omega arith)
+over-stays h log (Within k x) (s ∷ ss) e = let z : _≡_ {A = ℕ} 0 1 = ap (λ (b : Bool). pick b 1 0) e in absurd (omega arith)
+over-stays h log (Broken k x) (s ∷ ss) e = let z : _≡_ {A = ℕ} 0 1 = ap (λ (b : Bool). pick b 1 0) e in absurd (omega arith)
+over-stays h log (Over a) (s ∷ ss) e = over-stays h log (Over a) ss refl
+
 module _ {h : Handle} {log t : List ℕ} {n from to : ℕ} {w : Walk} {i : ℕ} (g : Walking h log t n from to w i) where
+  pub walk-over : {b : Bool} → b ≡ isOver w → b ≡ true → {r : Stepped} → r ≡ endedBy w → r ≡ stepIn h log (slice from to (slotsOf n t))
+  unfolding stepIn
+  walk-over e f er = er ∙ sym (ap endedBy (g .same ∙ over-stays h log w (slice i to (slotsOf n t)) (sym e ∙ f)))
+
   pub walk-end : to ≤ i → {r : Stepped} → r ≡ endedBy w → r ≡ stepIn h log (slice from to (slotsOf n t))
   unfolding walkIn stepIn
   walk-end k er = er ∙ sym (ap endedBy (g .same ∙ rw-none))

@@ -91,6 +91,13 @@ endedBy (Within key held) = heldAnswer held
 endedBy (Broken key held) = heldAnswer held
 endedBy (Over answer) = answer
 
+-- the answer is known, and no record behind changes it
+abbrev pub isOver : Walk → Bool
+isOver Start = false
+isOver (Within key held) = false
+isOver (Broken key held) = false
+isOver (Over answer) = true
+
 -- ---- the step
 
 unfoldable pub walkIn : Handle → List ℕ → Walk → List Slot → Walk

@@ -15,7 +15,7 @@ ghost use Prim.Native.Nat.{_*_, _≤_};
 ghost use lib.ListN.{length};
 ghost use Rattle.keydir.specs.Slots.{slotWords, slotsOf};
 ghost use Rattle.txn.specs.Ranges.{slice};
-ghost use Rattle.walks.specs.Walks.{sameString, heldAnswer, laterHeld, closedBy, spoiltBy, openedBy, withinBy, brokenBy, nextWalk, endedBy, stepIn};
+ghost use Rattle.walks.specs.Walks.{sameString, heldAnswer, laterHeld, closedBy, spoiltBy, openedBy, withinBy, brokenBy, nextWalk, endedBy, isOver, stepIn};
 
 // Before the first group; within one, with the place of its key and what it holds so far; the same with a key behind it that does not
 // decode; and past the end of the step.
@@ -145,7 +145,19 @@ fn ended(walk: Walk) -> Stepped
     }
 }
 
-// The slots from number `from` on, to `to`.
+// Whether the step's answer is known: it reads no further than that.
+fn over(walk: Walk) -> bool
+    ensures { λ r. ⌜ r ≡ isOver walk ⌝ }
+{
+    match walk {
+        Walk::Start => false,
+        Walk::Within(_, _) => false,
+        Walk::Broken(_, _) => false,
+        Walk::Over(_) => true,
+    }
+}
+
+// The slots from number `from` on, to `to` or to where the answer is known.
 pub fn step_in(
     log: &[u8],
     table: &[u32],
@@ -160,6 +172,10 @@ pub fn step_in(
     let mut walk = Walk::Start;
     let mut i = from;
     while i < to {
+        let known = over(walk);
+        if known {
+            return ended(walk);
+        }
         let row = row_of(log, slot_at(table, i), handle);
         walk = next_walk(log, walk, row);
         i += 1;
