@@ -1,5 +1,6 @@
-//! The bench: each call at 1,000 and 10,000 live keys, on ours, on a plain in-memory version in Rust and on toydb over a file. Every side is a
-//! process that is given the same bytes; what one call costs is what more calls take longer, over how many more they are.
+//! The bench: each call at 1,000 and 10,000 live keys, and at 1,000 on a log eight times as long, on ours, on a plain in-memory version in
+//! Rust and on toydb over a file. Every side is a process that is given the same bytes; what one call costs is what more calls take longer,
+//! over how many more they are.
 
 use std::io::Write as _;
 use std::process::{Command, Stdio};
@@ -121,12 +122,12 @@ fn ratio(ours: &Cost, other: &Cost) -> String {
     counted.or(ours.nanoseconds.zip(other.nanoseconds)).map_or("-".to_string(), |(a, b)| format!("{:.2}", a / b))
 }
 
-fn say(name: &str, keys: u64, costs: &[Cost]) {
+fn say(name: &str, keys: u64, bytes: usize, costs: &[Cost]) {
     let show = |n: Option<f64>| n.map_or("-".to_string(), |n| format!("{n:.0}"));
     let times: String = costs.iter().map(|c| format!("{:>12}", show(c.nanoseconds))).collect();
     let counts: String = costs.iter().map(|c| format!("{:>13}", show(c.instructions))).collect();
     let (plain, toydb) = (ratio(&costs[0], &costs[1]), ratio(&costs[0], &costs[2]));
-    println!("{name:<16}{keys:>6}{times}{counts}{plain:>10}{toydb:>10}");
+    println!("{name:<16}{keys:>7}{bytes:>8}{times}{counts}{plain:>10}{toydb:>10}");
 }
 
 pub fn bench(program: &str) -> bool {
@@ -136,10 +137,10 @@ pub fn bench(program: &str) -> bool {
     println!("nanoseconds of processor time a call, the shortest of {RUNS} runs; instructions a call, by valgrind; ratios");
     let times: String = sides.iter().map(|s| format!("{:>12}", s.name)).collect();
     let counts: String = sides.iter().map(|s| format!("{:>13}", s.name)).collect();
-    println!("{:<16}{:>6}{times}{counts}{:>10}{:>10}", "call", "keys", "to plain", "to toydb");
+    println!("{:<16}{:>7}{:>8}{times}{counts}{:>10}{:>10}", "call", "keys", "log", "to plain", "to toydb");
     let mut fine = true;
-    for keys in [1_000, 10_000] {
-        let bytes = log(keys);
+    for (keys, written) in [(1_000, 1), (1_000, 8), (10_000, 1)] {
+        let bytes = log(keys, written);
         let mut set = Vec::new();
         for (call, name) in CALLS.iter().enumerate() {
             let mut costs: Vec<Cost> = sides.iter().map(|s| cost(s, call, keys, &bytes)).collect();
@@ -149,9 +150,9 @@ pub fn bench(program: &str) -> bool {
             }
             if *name == "set, commit" {
                 costs = set.iter().zip(&costs).map(|(s, both)| commit(s, both)).collect();
-                say("commit, a write", keys, &costs);
+                say("commit, a write", keys, bytes.len(), &costs);
             } else {
-                say(name, keys, &costs);
+                say(name, keys, bytes.len(), &costs);
             }
             if *name == "set" {
                 set = costs;

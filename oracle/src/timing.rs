@@ -18,11 +18,12 @@ pub fn key(n: u64) -> [u8; 8] {
     std::array::from_fn(|i| b'a' + ((n >> (4 * (7 - i))) % 16) as u8)
 }
 
-/// The log of a store with one version of each key, as one committed transaction would leave it after a compaction.
-pub fn log(keys: u64) -> Vec<u8> {
+/// The log of a store with one version of each key, as one committed transaction would leave it after a compaction; each key written so many
+/// times, so that a log may be long and its keys few.
+pub fn log(keys: u64, written: u64) -> Vec<u8> {
     let mut plain = Plain::open(Vec::new());
     plain.put(vec![0], &2u64.to_be_bytes());
-    for n in 0..keys {
+    for n in (0..written).flat_map(|_| 0..keys) {
         let value = [&[1, b'0' + (n % 10) as u8], b" a value".as_slice()].concat();
         plain.put(version_key(&key(n), 1), &value);
     }

@@ -23,7 +23,7 @@ use Rattle.tape_record.specs.Requests.{fieldsOf}
 use Rattle.tape_record.specs.Slots.{allWords, filled, handleAt, fill, empty}
 use Rattle.tape_record.proofs.SlotLaws.{slot-back, length-fill, length-empty, handle-fill-other, filled-fill-other, handle-empty-other, filled-empty-other, filled-empty}
 use Rattle.tape.specs.Answers.{filledWith, emptiedBy}
-use Rattle.tape.specs.Turns.{startCall, writeCall, endCall, Started, started, Looked, looked, Written, written, Scanned, ends, goes, Ended, ended, Tidied, tidied, Told, told, Held, looking, writing, scanning, ending, Bench, benchOf, starting, holding, tidying, telling, Turned, short, bad, good}
+use Rattle.tape.specs.Turns.{startCall, writeCall, endCall, Started, started, Looked, looked, Written, written, Scanned, ends, goes, Ended, ended, Tidied, tidied, Told, told, Held, looking, writing, scanning, ending, Bench, swapped, starting, holding, tidying, telling, Turned, short, bad, good}
 use Rattle.tape.proofs.AdmitLaws.{slot-below, slot-filled, held-commands}
 
 -- sixteen slots, and each filled one has a handle that one of the calls gave
@@ -147,10 +147,6 @@ module _ {T : Calls} {w : World} {slots : List ℕ} (run : Run true w T) (s : Sl
   told-goes : {x : List ℕ} → Told w x → Goes T w slots
   told-goes (told a p) = calls-once (fair-free (counts a) refl) p (slotted-more s)
 
-  tidied-goes : {g : List ℕ} {used : ℕ} {o : Bool} {t g′ x : List ℕ} → Tidied (w .log) (w .used) (w .table) g used o t g′ x → Goes T (benchOf o (w .log) g′ used t slots .world) slots
-  tidied-goes {g} (tidied (Done u) p) = calls-once (fair-free (compacts (Done u)) refl) (compacting g p) (slotted-more s)
-  tidied-goes {g} (tidied (Refused r) p) = calls-once (fair-free (compacts (Refused r)) refl) (compacting g p) (slotted-more s)
-
 scanned-goes : {T : Calls} {w : World} {slots : List ℕ} {h : Handle} {p : List ℕ} {room : ℕ} {given : Bool} {before : List ℕ} {n : ℕ} {x : List ℕ}
     → Run true w T → Slotted T slots → Given h T → Scanned w h p room given before n x → Goes T w slots
 scanned-goes {h = h} {p = k} {given = b} {before = l} run s g (ends a p e) = calls-once run s (fair-with (scansPrefix h k b l a) h refl g) p (slotted-more s)
@@ -158,9 +154,10 @@ scanned-goes {h = h} {p = k} {given = b} {before = l} run s g (goes a p e r) =
     let more = scanned-goes (called run (fair-with (scansPrefix h k b l a) h refl g) p) (slotted-more s) (given-more g) r in
     record { calls = more .calls; after = after-both (later now) (more .after); run = more .run; slotted = more .slotted }
 
-bench-slots : (o : Bool) (first second : List ℕ) (used : ℕ) (t slots : List ℕ) → benchOf o first second used t slots .slots ≡ slots
-bench-slots true first second used t slots = refl
-bench-slots false first second used t slots = refl
+tidied-goes : {T : Calls} (b : Bench) {used : ℕ} {done : Bool} {t g x : List ℕ} → Run true (b .world) T → Slotted T (b .slots)
+    → Tidied (b .world .log) (b .world .used) (b .world .table) (b .spare) used done t g x → Goes T (swapped b done g used t .world) (swapped b done g used t .slots)
+tidied-goes b run s (tidied (Done u) p) = calls-once run s (fair-free (compacts (Done u)) refl) (compacting (b .spare) p) (slotted-more s)
+tidied-goes b run s (tidied (Refused r) p) = calls-once run s (fair-free (compacts (Refused r)) refl) (compacting (b .spare) p) (slotted-more s)
 
 held-goes : {T : Calls} {w : World} {slots : List ℕ} {q : Request} {k v : List ℕ} {room : ℕ} {w′ : World} {slots′ x : List ℕ} → Run true w T → Slotted T slots → q .slot < 16
     → Given (handleAt slots (q .slot)) T → Held w slots q k v room w′ slots′ x → Goes T w′ slots′
@@ -177,6 +174,5 @@ turn-runs b {r} run s (good e f (starting c p)) = started-goes run s (slot-below
 turn-runs b {r} run s (good e f (holding p)) =
     let c = held-commands p in
     held-goes run s (slot-below r (b .slots) f) (s .given (fieldsOf r .slot) (slot-filled r (b .slots) f (c .0) (c .1))) p
-turn-runs b run s (good e f (tidying {used = u} {other = o} {t = t} {g = g} c p)) =
-    subst (Goes _ (benchOf o (b .world .log) g u t (b .slots) .world)) (sym (bench-slots o (b .world .log) g u t (b .slots))) (tidied-goes run s p)
+turn-runs b run s (good e f (tidying c p)) = tidied-goes b run s p
 turn-runs b run s (good e f (telling c p)) = told-goes run s p

@@ -18,7 +18,7 @@ use Rattle.tape_record.specs.Slots.{allWords, handleAt}
 use Rattle.tape_record.proofs.LayoutLaws.{plainly-long}
 use Rattle.tape.specs.declared.state.Turn.{Turn}
 use Rattle.tape.specs.declared.state.Taken.the-variants as Took
-use Rattle.tape.specs.Turns.{Started, Looked, Written, Scanned, Ended, Tidied, Told, Held, looking, writing, scanning, ending, Bench, worldOf, benchOf, Carried, starting, holding, tidying, telling, admitted, Turned, short, bad, good}
+use Rattle.tape.specs.Turns.{Started, Looked, Written, Scanned, Ended, Tidied, Told, Held, looking, writing, scanning, ending, Bench, worldOf, benchOf, swapped, Carried, starting, holding, tidying, telling, admitted, Turned, short, bad, good}
 use Rattle.tape.specs.Promises.{Lays, lentWell, Lent, Takes}
 
 lays-map : {P Q : List ℕ → Type 0} {out : List ℕ} {n : ℕ} {out′ : List ℕ} → ((x : List ℕ) → P x → Q x) → Lays P out n out′ → Lays Q out n out′
@@ -55,6 +55,11 @@ module _ (log : List ℕ) (used : Used) (t slots : List ℕ) (q : Request) (key 
 
 -- ---- all commands
 
+-- the log first: done, a compaction leaves it second
+swap-bench : (done : Bool) (log spare : List ℕ) (used : ℕ) (t slots g : List ℕ) (u : ℕ) (t′ : List ℕ) → swapped (benchOf false log spare used t slots) done g u t′ ≡ benchOf done log g u t′ slots
+swap-bench true log spare used t slots g u t′ = refl
+swap-bench false log spare used t slots g u t′ = refl
+
 module _ (log spare : List ℕ) (used : Used) (t slots : List ℕ) (q : Request) (key value : List ℕ) (room : ℕ) (out out′ : List ℕ) where
   abbrev CarriedBy : List ℕ → List ℕ → List ℕ → List ℕ → Turn → Type 0
   CarriedBy log′ spare′ t′ slots′ r =
@@ -71,7 +76,9 @@ module _ (log spare : List ℕ) (used : Used) (t slots : List ℕ) (q : Request)
       (lays-map (λ x p. holding p) (h .1))
 
   pub carry-tidy : {r : Turn} {t′ spare′ : List ℕ} → q .command ≡ 10 → Lays (Tidied log (used .len) t spare (r .used .len) (r .other) t′ spare′) out (r .len) out′ → CarriedBy log spare′ t′ slots r
-  carry-tidy c l = lays-map (λ x p. tidying c p) l
+  carry-tidy {r} {t′} {spare′} c l =
+      subst (λ (b : Bench). Lays (Carried (benchOf false log spare (used .len) t slots) q key value room b) out (r .len) out′) (swap-bench (r .other) log spare (used .len) t slots spare′ (r .used .len) t′)
+      (lays-map (λ x p. tidying c p) l)
 
   pub carry-tell : {r : Turn} → q .command ≡ 11 → Lays (Told (worldOf log (used .len) t)) out recordLen out′ → r ≡ one used → CarriedBy log spare t slots r
   carry-tell c l e = subst (CarriedBy log spare t slots) (sym e) (lays-map (λ x p. telling c p) l)
@@ -127,7 +134,26 @@ well-lent : (l : Lent) → recordLen ≤ length (l .out) → length (l .slots) �
 unfolding lentWell
 well-lent l h e = rw (le-leb recordLen (length (l .out)) h, eq-eqb (length (l .slots)) allWords e)
 
-bench-flip : (o : Bool) (first second : List ℕ) (used : ℕ) (t slots : List ℕ) → benchOf o second first used t slots ≡ benchOf (not o) first second used t slots
+-- the two buffers told the other way round
+abbrev flip : Bench → Bench
+flip b = record { world = b .world; spare = b .spare; slots = b .slots; other = not (b .other) }
+
+carried-flip : {b : Bench} {q : Request} {key value : List ℕ} {room : ℕ} {b′ : Bench} {x : List ℕ} → Carried b q key value room b′ x → Carried (flip b) q key value room (flip b′) x
+carried-flip (starting c p) = starting c p
+carried-flip (holding p) = holding p
+carried-flip (tidying {done = true} c p) = tidying c p
+carried-flip (tidying {done = false} c p) = tidying c p
+carried-flip (telling c p) = telling c p
+
+turn-flip : {b : Bench} {r : List ℕ} {room : ℕ} {b′ : Bench} {x : List ℕ} → Turned b r room b′ x → Turned (flip b) r room (flip b′) x
+turn-flip (short e) = short e
+turn-flip (bad e f) = bad e f
+turn-flip (good e f p) = good e f (carried-flip p)
+
+lays-flip : {b : Bench} {r : List ℕ} {room : ℕ} {b′ : Bench} {out : List ℕ} {n : ℕ} {out′ : List ℕ} → Lays (Turned b r room b′) out n out′ → Lays (Turned (flip b) r room (flip b′)) out n out′
+lays-flip l = lays-map (λ x p. turn-flip p) l
+
+bench-flip : (o : Bool) (first second : List ℕ) (used : ℕ) (t slots : List ℕ) → flip (benchOf o second first used t slots) ≡ benchOf (not o) first second used t slots
 bench-flip true first second used t slots = refl
 bench-flip false first second used t slots = refl
 
@@ -148,5 +174,5 @@ module _ (l : Lent) (used : ℕ) {other : Bool} (r : List ℕ) (l′ : Lent) (h 
       (record {
         well = well-lent l h e;
         turn = subst (λ (b : Bench). Lays (Turned (benchOf true (l .first) (l .second) used (l .table) (l .slots)) r (length (l .out) / recordLen) b) (l .out) (a .len) (l′ .out))
-            (bench-flip (a .other) (l′ .first) (l′ .second) (a .used .len) (l′ .table) (l′ .slots)) p;
+            (bench-flip (a .other) (l′ .first) (l′ .second) (a .used .len) (l′ .table) (l′ .slots)) (lays-flip p);
       })

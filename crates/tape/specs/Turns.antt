@@ -2,7 +2,7 @@
 -- cites, from the world before to the world after. Document 01, 'Tape'. Assumes nothing.
 use Prim.Native.Nat.{ℕ, _+_, _≤_}
 use mathlib.Core.Path.{_≡_}
-use mathlib.Core.Bool.{Bool, true, false}
+use mathlib.Core.Bool.{Bool, true, false, not}
 use mathlib.Core.List.{List, [], _++_}
 use lib.ListN.{length}
 use lib.Dec.{eqb}
@@ -77,25 +77,35 @@ pub data Held (w : World) (slots : List ℕ) (q : Request) (key value : List ℕ
 
 -- ---- a command that a record names
 
--- the world, the buffer beside its log, and the handle slots
+-- the world, the buffer beside its log, the handle slots, and which of the two buffers as they were lent is the log
 pub record Bench : Type 0 where
   pub world : World
   pub spare : List ℕ
   pub slots : List ℕ
+  pub other : Bool
 
 abbrev pub worldOf : List ℕ → ℕ → List ℕ → World
 worldOf log used t = record { log = log; used = used; table = t }
 
 -- the bench of two buffers of which the second is the log, or the first
 abbrev pub benchOf : Bool → List ℕ → List ℕ → ℕ → List ℕ → List ℕ → Bench
-benchOf true first second used t slots = record { world = worldOf second used t; spare = first; slots = slots }
-benchOf false first second used t slots = record { world = worldOf first used t; spare = second; slots = slots }
+benchOf true first second used t slots = record { world = worldOf second used t; spare = first; slots = slots; other = true }
+benchOf false first second used t slots = record { world = worldOf first used t; spare = second; slots = slots; other = false }
+
+-- the world and the slots after a command that leaves the buffers where they are
+abbrev pub inPlace : Bench → World → List ℕ → Bench
+inPlace b w s = record { world = w; spare = b .spare; slots = s; other = b .other }
+
+-- after a compaction: done, log and spare buffer have changed places
+abbrev pub swapped : Bench → Bool → List ℕ → ℕ → List ℕ → Bench
+swapped b true g used t = record { world = worldOf g used t; spare = b .world .log; slots = b .slots; other = not (b .other) }
+swapped b false g used t = record { world = worldOf (b .world .log) used t; spare = g; slots = b .slots; other = b .other }
 
 pub data Carried (b : Bench) (q : Request) (key value : List ℕ) (room : ℕ) : Bench → List ℕ → Type 0 where
-  starting : {w : World} {s x : List ℕ} → q .command ≤ 3 → Started (b .world) (b .slots) q w s x → Carried b q key value room (record { world = w; spare = b .spare; slots = s }) x
-  holding : {w : World} {s x : List ℕ} → Held (b .world) (b .slots) q key value room w s x → Carried b q key value room (record { world = w; spare = b .spare; slots = s }) x
-  tidying : {used : ℕ} {other : Bool} {t g x : List ℕ} → q .command ≡ 10 → Tidied (b .world .log) (b .world .used) (b .world .table) (b .spare) used other t g x
-      → Carried b q key value room (benchOf other (b .world .log) g used t (b .slots)) x
+  starting : {w : World} {s x : List ℕ} → q .command ≤ 3 → Started (b .world) (b .slots) q w s x → Carried b q key value room (inPlace b w s) x
+  holding : {w : World} {s x : List ℕ} → Held (b .world) (b .slots) q key value room w s x → Carried b q key value room (inPlace b w s) x
+  tidying : {used : ℕ} {done : Bool} {t g x : List ℕ} → q .command ≡ 10 → Tidied (b .world .log) (b .world .used) (b .world .table) (b .spare) used done t g x
+      → Carried b q key value room (swapped b done g used t) x
   telling : {x : List ℕ} → q .command ≡ 11 → Told (b .world) x → Carried b q key value room b x
 
 -- ---- a record: 13 where it is short or bad, else what its command does
