@@ -1,10 +1,10 @@
 // The tape: one record in, its answers out, over lent buffers. Document 01, 'Tape'. toydb has none; the calls are those of its
 // storage/mvcc.rs and bitcask.rs.
-pub mod answers;
-pub mod calls;
-pub mod scan;
-pub mod state;
-pub mod turn;
+mod answers;
+mod calls;
+mod scan;
+mod state;
+mod turn;
 
 pub use state::Taken;
 pub use state::Turn;
