@@ -1,12 +1,12 @@
 // The records of a tape as they come, in chunks of any size, each answered before the next is read, so that whoever waits for an answer
 // has it. What is left at the end is a short record, and ends the run.
+use bitcask::Used;
 use keycode::parts::clip;
 use libc::STDIN_FILENO;
 use libc::STDOUT_FILENO;
-use recovery::Used;
 use tape::Taken;
+use tape::format::layout::RECORD;
 use tape::take;
-use tape_record::layout::RECORD;
 
 // The store's used length, which buffer is its log, and whether there is more to read.
 pub struct Place {

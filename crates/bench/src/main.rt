@@ -2,9 +2,9 @@
 // and the bytes from one end to the other. Document 01, 'Tape'.
 mod feed;
 
+use bitcask::Used;
+use bitcask::open;
 use feed::run;
-use recovery::Used;
-use recovery::opening::open;
 
 // The log, and as many bytes beside it for compactions.
 const LOG: usize = 16384;

@@ -1,3 +1,8 @@
--- The definitions of get and scan step: ranks and bounds; Promises has what each call promises.
-pub mod Ranks
-pub mod Promises
+-- The definitions, a module for each part.
+pub mod entry
+pub mod keydir
+pub mod recovery
+pub mod change
+pub mod read
+pub mod compaction
+pub mod check

@@ -1,5 +1,31 @@
-// The engine's reads: get and scan step over a lent log and a lent table, as toydb's BitCask (storage/bitcask.rs, engine.rs) has them.
-// Set and delete are in crate changes, compact and status in compaction, open in recovery; rank is what the transactions build on.
+// The log: open, get, scan step, set, delete, compaction, status and the yes/no on agreement, over a lent log and a lent table. It is
+// toydb's storage/bitcask.rs and engine.rs. Document 01, 'The log'. What is public below the modules is for the transactions.
 pub mod answers;
+pub mod append;
+pub mod change;
+mod check;
+pub mod compaction;
+pub mod entry;
+pub mod keydir;
 pub mod rank;
 pub mod read;
+pub mod recovery;
+pub mod report;
+pub mod request;
+
+pub use answers::Bound;
+pub use answers::Located;
+pub use answers::Stepped;
+pub use change::delete;
+pub use change::set;
+pub use check::agrees;
+pub use compaction::compact;
+pub use read::get;
+pub use read::part;
+pub use read::scan_step;
+pub use recovery::open;
+pub use report::Counted;
+pub use report::Counts;
+pub use report::status;
+pub use request::Changed;
+pub use request::Used;

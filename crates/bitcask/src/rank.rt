@@ -1,12 +1,12 @@
 // Ranks: how many keys are below one, and the numbers that bounds are. A range of keys is a range of numbers, which its callers walk.
 use crate::answers::Bound;
-use keydir::Found;
-use keydir::find;
+use crate::keydir::Found;
+use crate::keydir::find;
 ghost use mathlib.Core.Path.{_≡_};
 ghost use Prim.Native.Nat.{_*_, _≤_};
 ghost use lib.ListN.{length};
-ghost use Rattle.keydir.specs.Slots.{slotWords, slotsOf};
-ghost use Rattle.bitcask.specs.Ranks.{below as belowOf, upto as uptoOf, fromBound, uptoBound};
+ghost use Rattle.bitcask.specs.keydir.Slots.{slotWords, slotsOf};
+ghost use Rattle.bitcask.specs.read.Ranks.{below as belowOf, upto as uptoOf, fromBound, uptoBound};
 
 // How many keys are below one.
 fn below(log: &[u8], table: &[u32], count: usize, key: &[u8]) -> usize

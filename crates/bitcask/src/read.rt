@@ -1,24 +1,25 @@
-// Get and scan step answer places; `part` hands back the bytes at one, as a part of the caller's log.
+// Get and scan step, as toydb's BitCask (storage/bitcask.rs, engine.rs) has them. They answer places; `part` hands back the bytes at
+// one, as a part of the caller's log.
 use crate::answers::Bound;
 use crate::answers::Located;
 use crate::answers::Stepped;
+use crate::keydir::Found;
+use crate::keydir::Slot;
+use crate::keydir::count;
+use crate::keydir::find;
+use crate::keydir::slots::slot_at;
 use crate::rank::from_bound;
 use crate::rank::upto_bound;
+use crate::request::Used;
+use crate::request::fits;
 use keycode::Part;
 use keycode::Refusal;
 use keycode::parts::clip;
-use keydir::Found;
-use keydir::Slot;
-use keydir::count;
-use keydir::find;
-use keydir::slots::slot_at;
-use recovery::Used;
-use recovery::request::fits;
 ghost use mathlib.Core.Path.{_≡_};
 ghost use Prim.Native.Nat.{_<_, max};
 ghost use lib.ListN.{take, drop};
-ghost use Rattle.bitcask.specs.Ranks.{lastBound};
-ghost use Rattle.bitcask.specs.Promises.{Gets, Steps, keyPart, valuePart};
+ghost use Rattle.bitcask.specs.read.Ranks.{lastBound};
+ghost use Rattle.bitcask.specs.read.Promises.{Gets, Steps, keyPart, valuePart};
 
 // The bytes at a place, cut where the log ends.
 pub fn part<'a>(log: &'a [u8], place: Part) -> &'a [u8]

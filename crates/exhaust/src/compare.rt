@@ -8,17 +8,17 @@ use crate::tally::Case;
 use crate::tally::Tally;
 use crate::tally::judge;
 use crate::tally::more;
-use bitcask::answers::Bound;
-use bitcask::answers::Located;
-use bitcask::answers::Stepped;
-use bitcask::read::get;
-use bitcask::read::scan_step;
+use bitcask::Bound;
+use bitcask::Changed;
+use bitcask::Located;
+use bitcask::Stepped;
+use bitcask::Used;
+use bitcask::get;
+use bitcask::open;
+use bitcask::scan_step;
 use keycode::Part;
 use keycode::number_of;
 use keycode::parts::clip;
-use recovery::Changed;
-use recovery::Used;
-use recovery::open;
 
 fn wide(x: u32) -> usize {
     x as usize

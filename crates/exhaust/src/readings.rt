@@ -4,10 +4,10 @@ use crate::show::show_bytes;
 use crate::show::show_number;
 use crate::show::show_size;
 use crate::show::show_text;
+use bitcask::Changed;
+use bitcask::Used;
+use bitcask::open;
 use keycode::number_of;
-use recovery::Changed;
-use recovery::Used;
-use recovery::open;
 
 fn show_word(word: u32) {
     show_number(b" ", word as u64);

@@ -1,5 +1,4 @@
 // What the runs count, and the first case that differed.
-
 pub struct Case {
     pub entries: usize,
     pub code: usize,

@@ -22,12 +22,12 @@ use Rattle.keycode.specs.declared.refusal.Refusal.the-variants.{BadRequest}
 use Rattle.keycode.proofs.BufferLaws.{refused-stays, put-front, put-put}
 use Rattle.keycode.proofs.NumberLaws.{length-be}
 use Rattle.keycode.proofs.StringLaws.{body-bound, plain-done}
-use Rattle.keys.specs.Keys.{Fields, nextVersion, txnActive, txnActiveSnapshot, txnWrite, version, unversioned, encode, userKey, decodeWhy, forget}
-use Rattle.encoders.specs.Promises.{encodeAnswer}
-use Rattle.keys.specs.declared.keys.Key.{Key}
-use Rattle.keys.specs.declared.keys.Decoded.{Decoded}
-use Rattle.keys.specs.declared.keys.Decoded.the-variants.{Whole, Refused as NotWhole}
-use Rattle.encoders.proofs.EncodeLaws.{measure-says, two-put, version-length, write-length, unversioned-length}
+use Rattle.keycode.specs.key.Keys.{Fields, nextVersion, txnActive, txnActiveSnapshot, txnWrite, version, unversioned, encode, userKey, decodeWhy, forget}
+use Rattle.keycode.specs.encode.Promises.{encodeAnswer}
+use Rattle.keycode.specs.declared.key.Key.{Key}
+use Rattle.keycode.specs.declared.key.Decoded.{Decoded}
+use Rattle.keycode.specs.declared.key.Decoded.the-variants.{Whole, Refused as NotWhole}
+use Rattle.keycode.proofs.encode.EncodeLaws.{measure-says, two-put, version-length, write-length, unversioned-length}
 use Rattle.host.specs.Answers.{half, lengthOf, packed, Tells}
 use Rattle.host.specs.Promises.{Gives, Encodes, Unescapes, Decodes, fieldCount, split, laidOut, splitBytes}
 use Rattle.host.specs.declared.coding.Split.{Split}

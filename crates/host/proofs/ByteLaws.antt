@@ -10,11 +10,11 @@ use Rattle.keycode.specs.Number.{be, num, numFrom}
 use Rattle.keycode.specs.Buffer.{put}
 use Rattle.keycode.proofs.BufferLaws.{put-put}
 use Rattle.keycode.proofs.NumberLaws.{Bytes, bytes-take, bytes-drop, length-be, num-any, be-num}
-use Rattle.entry.specs.Reading.{wordAt}
-use Rattle.keydir.specs.Words.{copied}
-use Rattle.keydir.specs.Slots.{slotWords, freeSlot, slotHead, slotAt, slotsOf, wordsOf, insertAt, removeAt}
-use Rattle.keydir.specs.declared.slots.Slot.{Slot}
-use Rattle.keydir.proofs.SlotLaws.{insert-is, remove-is}
+use Rattle.bitcask.specs.entry.Reading.{wordAt}
+use Rattle.bitcask.specs.keydir.Words.{copied}
+use Rattle.bitcask.specs.keydir.Slots.{slotWords, freeSlot, slotHead, slotAt, slotsOf, wordsOf, insertAt, removeAt}
+use Rattle.bitcask.specs.declared.keydir.slots.Slot.{Slot}
+use Rattle.bitcask.proofs.keydir.SlotLaws.{insert-is, remove-is}
 use Rattle.host.specs.Table.{wordBytes, slotBytes, spread, firstWords, wordsIn}
 
 -- ---- reading words

@@ -15,18 +15,18 @@ use Rattle.keycode.specs.declared.refusal.Length.{Length}
 use Rattle.keycode.specs.declared.refusal.Length.the-variants.{Refused}
 use Rattle.keycode.specs.declared.refusal.Refusal.the-variants.{BadRequest}
 use Rattle.keycode.proofs.NumberLaws.{Bytes}
-use Rattle.keydir.specs.Slots.{slotWords}
-use Rattle.keydir.specs.declared.place.Found.{Found}
-use Rattle.keydir.specs.declared.place.Found.the-variants.{Before}
-use Rattle.keydir.specs.declared.slots.Slot.{Slot}
-use Rattle.recovery.specs.declared.request.Changed.{Changed}
-use Rattle.recovery.specs.declared.request.Changed.the-variants.{Refused as NotOpened}
-use Rattle.recovery.specs.Agree.{fit}
-use Rattle.recovery.specs.Recover.{items, ends, roomFor, run}
-use Rattle.recovery.specs.Promises.{openedBy, openedWords, openAnswer, openTable, Walks, Opens as OpensWords}
-use Rattle.recovery.proofs.ItemLaws.{items-chain, chain-ends}
-use Rattle.recovery.proofs.AgreeLaws.{fit-sound}
-use Rattle.recovery.proofs.WalkLaws.{open-bad, open-sound, open-clear, open-walked}
+use Rattle.bitcask.specs.keydir.Slots.{slotWords}
+use Rattle.bitcask.specs.declared.keydir.place.Found.{Found}
+use Rattle.bitcask.specs.declared.keydir.place.Found.the-variants.{Before}
+use Rattle.bitcask.specs.declared.keydir.slots.Slot.{Slot}
+use Rattle.bitcask.specs.declared.request.Changed.{Changed}
+use Rattle.bitcask.specs.declared.request.Changed.the-variants.{Refused as NotOpened}
+use Rattle.bitcask.specs.recovery.Agree.{fit}
+use Rattle.bitcask.specs.recovery.Recover.{items, ends, roomFor, run}
+use Rattle.bitcask.specs.recovery.Promises.{openedBy, openedWords, openAnswer, openTable, Walks, Opens as OpensWords}
+use Rattle.bitcask.proofs.recovery.ItemLaws.{items-chain, chain-ends}
+use Rattle.bitcask.proofs.recovery.AgreeLaws.{fit-sound}
+use Rattle.bitcask.proofs.recovery.WalkLaws.{open-bad, open-sound, open-clear, open-walked}
 use Rattle.host.specs.Answers.{half, lengthOf, packed}
 use Rattle.host.specs.Table.{wordBytes, slotBytes, spread, wordsIn}
 use Rattle.host.specs.Promises.{usedLength, openLength, openBytes, Opens}

@@ -14,15 +14,15 @@ use Rattle.keycode.specs.Promises.{intoRoom}
 use Rattle.keycode.specs.declared.refusal.Length.{Length}
 use Rattle.keycode.specs.declared.refusal.Length.the-variants.{Done, Refused}
 use Rattle.keycode.specs.declared.refusal.Refusal.the-variants.{BadRequest}
-use Rattle.keys.specs.Keys.{Fields, encode, userKey, decodeWhy, forget}
-use Rattle.encoders.specs.Promises.{encodeAnswer}
-use Rattle.keys.specs.declared.keys.Key.{Key}
-use Rattle.keys.specs.declared.keys.Key.the-variants.{NextVersion, TxnActive, TxnActiveSnapshot, TxnWrite, Version, Unversioned}
-use Rattle.keys.specs.declared.keys.Decoded.{Decoded}
-use Rattle.keys.specs.declared.keys.Decoded.the-variants.{Whole, Refused as NotWhole}
-use Rattle.recovery.specs.declared.request.Changed.{Changed}
-use Rattle.recovery.specs.declared.request.Changed.the-variants.{Done as Opened, Refused as NotOpened}
-use Rattle.recovery.specs.Promises.{openAnswer, openTable}
+use Rattle.keycode.specs.key.Keys.{Fields, encode, userKey, decodeWhy, forget}
+use Rattle.keycode.specs.encode.Promises.{encodeAnswer}
+use Rattle.keycode.specs.declared.key.Key.{Key}
+use Rattle.keycode.specs.declared.key.Key.the-variants.{NextVersion, TxnActive, TxnActiveSnapshot, TxnWrite, Version, Unversioned}
+use Rattle.keycode.specs.declared.key.Decoded.{Decoded}
+use Rattle.keycode.specs.declared.key.Decoded.the-variants.{Whole, Refused as NotWhole}
+use Rattle.bitcask.specs.declared.request.Changed.{Changed}
+use Rattle.bitcask.specs.declared.request.Changed.the-variants.{Done as Opened, Refused as NotOpened}
+use Rattle.bitcask.specs.recovery.Promises.{openAnswer, openTable}
 use Rattle.host.specs.Answers.{Tells}
 use Rattle.host.specs.Table.{wordBytes, spread}
 use Rattle.host.specs.declared.coding.Split.{Split}

@@ -1,24 +1,24 @@
-// The exported functions on keys. Each makes the call of crate keys or keycode and packs its answer; decoding lays the key's fields into
+// The exported functions on keys. Each makes the call of crate keycode and packs its answer; decoding lays the key's fields into
 // the lent buffer.
 use crate::answers::told;
-use encoders::encode_next_version;
-use encoders::encode_txn_active;
-use encoders::encode_txn_active_snapshot;
-use encoders::encode_txn_write;
-use encoders::encode_unversioned;
-use encoders::encode_version;
+use keycode::Decoded;
+use keycode::Key;
 use keycode::Length;
 use keycode::Refusal;
+use keycode::decode;
+use keycode::encode_next_version;
+use keycode::encode_txn_active;
+use keycode::encode_txn_active_snapshot;
+use keycode::encode_txn_write;
+use keycode::encode_unversioned;
+use keycode::encode_version;
 use keycode::number::put_number;
 use keycode::unescape;
-use keys::Decoded;
-use keys::Key;
-use keys::decode;
 ghost use mathlib.Core.Path.{_≡_};
 ghost use Prim.Native.Nat.{_≤_};
 ghost use lib.ListN.{length};
 ghost use Rattle.keycode.specs.Buffer.{put};
-ghost use Rattle.keys.specs.Keys.{nextVersion, txnActive, txnActiveSnapshot, txnWrite, version as versionKey, unversioned};
+ghost use Rattle.keycode.specs.key.Keys.{nextVersion, txnActive, txnActiveSnapshot, txnWrite, version as versionKey, unversioned};
 ghost use Rattle.host.specs.Promises.{Encodes, Decodes, Unescapes, fieldCount, laidOut, split};
 
 #[no_mangle]

@@ -1,4 +1,4 @@
-// The opening of a log with a table of bytes: the entries in turn, into a cleared table, as crate recovery does with words.
+// The opening of a log with a table of bytes: the entries in turn, into a cleared table, as bitcask::recovery does with words.
 use crate::answers::told;
 use crate::place::enter;
 use crate::place::find;
@@ -6,26 +6,26 @@ use crate::place::leave;
 use crate::slots::SLOT_BYTES;
 use crate::slots::WORD_BYTES;
 use crate::slots::clear;
-use entry::Read;
-use entry::entry_at;
+use bitcask::Changed;
+use bitcask::Used;
+use bitcask::entry::Read;
+use bitcask::entry::entry_at;
+use bitcask::keydir::Found;
+use bitcask::keydir::Slot;
+use bitcask::keydir::key_of;
+use bitcask::recovery::Turn;
+use bitcask::request::fits;
 use keycode::Length;
 use keycode::Refusal;
-use keydir::Found;
-use keydir::Slot;
-use keydir::key_of;
-use recovery::Changed;
-use recovery::Turn;
-use recovery::Used;
-use recovery::fits;
 ghost use mathlib.Core.Bool.{true, false};
 ghost use mathlib.Core.Path.{_≡_};
 ghost use Prim.Native.Nat.{_+_, _*_, _≤_};
 ghost use lib.ListN.{length, replicate};
 ghost use Rattle.keycode.specs.Limits.{maxLog};
-ghost use Rattle.keydir.specs.Slots.{slotWords};
-ghost use Rattle.recovery.specs.Recover.{roomFor};
-ghost use Rattle.recovery.specs.Turns.{Takes, Turns};
-ghost use Rattle.recovery.specs.Promises.{Walks};
+ghost use Rattle.bitcask.specs.keydir.Slots.{slotWords};
+ghost use Rattle.bitcask.specs.recovery.Recover.{roomFor};
+ghost use Rattle.bitcask.specs.recovery.Turns.{Takes, Turns};
+ghost use Rattle.bitcask.specs.recovery.Promises.{Walks};
 ghost use Rattle.host.specs.Table.{wordsIn};
 ghost use Rattle.host.specs.Promises.{usedLength, Opens};
 

@@ -1,19 +1,19 @@
-// Where a key belongs in a table of bytes, and a slot put in or taken out there, as crate keydir does with words.
+// Where a key belongs in a table of bytes, and a slot put in or taken out there, as bitcask::keydir does with words.
 use crate::slots::SLOT_BYTES;
 use crate::slots::insert;
 use crate::slots::remove;
 use crate::slots::replace;
 use crate::slots::slot_at;
+use bitcask::keydir::Found;
+use bitcask::keydir::Slot;
+use bitcask::keydir::key_of;
 use keycode::Order;
 use keycode::compare;
-use keydir::Found;
-use keydir::Slot;
-use keydir::key_of;
 ghost use mathlib.Core.Path.{_≡_};
 ghost use Prim.Native.Nat.{_*_, _≤_, _<_};
 ghost use lib.ListN.{length};
-ghost use Rattle.keydir.specs.Slots.{slotWords, slotsOf};
-ghost use Rattle.keydir.specs.Place.{orderAt, placeOf, Among, entered, cutAt, Becomes};
+ghost use Rattle.bitcask.specs.keydir.Slots.{slotWords, slotsOf};
+ghost use Rattle.bitcask.specs.keydir.Place.{orderAt, placeOf, Among, entered, cutAt, Becomes};
 ghost use Rattle.host.specs.Table.{wordsIn};
 
 // The i-th slot's key against a key.

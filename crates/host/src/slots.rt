@@ -1,17 +1,17 @@
-// The slots of a table of bytes: read, moved, put in, replaced and taken out, as crate keydir does with words. Each contract says of the
+// The slots of a table of bytes: read, moved, put in, replaced and taken out, as bitcask::keydir does with words. Each contract says of the
 // table's words what keydir's says.
+use bitcask::keydir::Slot;
 use keycode::number::get_number;
 use keycode::number::put_number;
 use keycode::parts::clip;
-use keydir::Slot;
 ghost use mathlib.Core.Path.{_≡_};
 ghost use mathlib.Core.List.{[], _∷_, _++_};
 ghost use Prim.Native.Nat.{_+_, _*_, _≤_, _<_};
 ghost use lib.ListN.{length, drop, replicate};
 ghost use Rattle.keycode.specs.Buffer.{put};
-ghost use Rattle.entry.specs.Reading.{wordAt};
-ghost use Rattle.keydir.specs.Words.{copied};
-ghost use Rattle.keydir.specs.Slots.{slotWords, slotAt, slotsOf, wordsOf, insertAt, replaceAt, removeAt};
+ghost use Rattle.bitcask.specs.entry.Reading.{wordAt};
+ghost use Rattle.bitcask.specs.keydir.Words.{copied};
+ghost use Rattle.bitcask.specs.keydir.Slots.{slotWords, slotAt, slotsOf, wordsOf, insertAt, replaceAt, removeAt};
 ghost use Rattle.host.specs.Table.{slotBytes, wordsIn};
 
 // The bytes that a word takes, and a slot.

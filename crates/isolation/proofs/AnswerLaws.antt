@@ -14,49 +14,49 @@ use borrow.Author.Tests.{le-leb, lt-leb}
 use Rattle.keycode.specs.Tests.{pick}
 use Rattle.keycode.specs.Limits.{maxOpen}
 use Rattle.keycode.specs.declared.refusal.Refusal.the-variants.{LogFull, TableFull, TooManyOpen, NoSuchVersion, VersionsSpent, BadStore}
-use Rattle.keydir.specs.Slots.{slotWords}
-use Rattle.keys.specs.Keys.{nextVersion, txnActiveSnapshot}
-use Rattle.entry.specs.Entry.{Entry}
-use Rattle.recovery.specs.declared.request.Changed.{Changed}
-use Rattle.recovery.specs.declared.request.Changed.the-variants as Change
-use Rattle.recovery.specs.Recover.{mapOf}
-use Rattle.recovery.specs.Agree.{Agrees}
-use Rattle.recovery.specs.Promises.{changedNumber}
-use Rattle.changes.specs.declared.append.Check.{Check}
-use Rattle.changes.specs.declared.append.Check.the-variants.{Fine}
-use Rattle.changes.specs.Append.{sizeAll, afterAll, appendAnswer}
-use Rattle.payloads.specs.declared.SetAnswer.the-variants as SetAnswers
-use Rattle.handle.specs.declared.handle.Handle.{Handle}
-use Rattle.handle.specs.Handles.{handleOf}
-use Rattle.txn.specs.declared.begun.Begun.{Begun}
-use Rattle.txn.specs.Given.{refusedBy, begunWith}
-use Rattle.txn.specs.Checks.{orElse}
-use Rattle.txn.specs.Lists.{Dels}
-use Rattle.mvcc_view.specs.declared.status.Versions.{Versions}
-use Rattle.mvcc_view.specs.declared.status.Stated.{Stated}
-use Rattle.mvcc_view.specs.declared.status.Stated.the-variants as Stating
-use Rattle.mvcc_begin.specs.Plan.{beginPlan}
-use Rattle.mvcc_begin.specs.Begins.{begunBy, beginWith}
-use Rattle.mvcc_view.specs.Answers.{readingWith}
-use Rattle.mvcc_past.specs.Answers.{asOfWith}
-use Rattle.mvcc_begin.specs.Promises.{Begins}
-use Rattle.mvcc_view.specs.Promises.{BeginsReading, States}
-use Rattle.mvcc_past.specs.Promises.{BeginsAsOf}
-use Rattle.mvcc_read.specs.Promises.{resumeAnswer, Resumes}
-use Rattle.undo.specs.Plans.{allUsers}
-use Rattle.mvcc_end.specs.Plans.{writesOf, commitPlan, rollbackPlan}
-use Rattle.mvcc_end.specs.Promises.{Commits, commitAnswer, RollsBack, undoAnswer, rollbackAnswer}
-use Rattle.mvcc_end.proofs.EndLaws.{dels-done}
-use Rattle.history.specs.History.{After, Sight, unborn, status}
-use Rattle.history.specs.Records.{Map, look, Sorted}
-use Rattle.history.specs.Calls.{nextOf, setOf as snapOf, actives}
-use Rattle.history.proofs.EffectLaws.{in-actives}
-use Rattle.history.proofs.RunLaws.{run-born, run-unborn, begin-new, run-open, run-sorted}
-use Rattle.records.specs.Stored.{keyOrder, sightOf}
-use Rattle.records.proofs.OrderLaws.{order}
-use Rattle.records.proofs.ActiveLaws.{active-count, actives-rise}
-use Rattle.records.proofs.ReadLaws.{next-pairs}
-use Rattle.records.proofs.EndLaws.{users-pairs}
+use Rattle.bitcask.specs.keydir.Slots.{slotWords}
+use Rattle.keycode.specs.key.Keys.{nextVersion, txnActiveSnapshot}
+use Rattle.bitcask.specs.entry.Entry.{Entry}
+use Rattle.bitcask.specs.declared.request.Changed.{Changed}
+use Rattle.bitcask.specs.declared.request.Changed.the-variants as Change
+use Rattle.bitcask.specs.recovery.Recover.{mapOf}
+use Rattle.bitcask.specs.recovery.Agree.{Agrees}
+use Rattle.bitcask.specs.recovery.Promises.{changedNumber}
+use Rattle.bitcask.specs.declared.append.Check.{Check}
+use Rattle.bitcask.specs.declared.append.Check.the-variants.{Fine}
+use Rattle.bitcask.specs.change.Append.{sizeAll, afterAll, appendAnswer}
+use Rattle.mvcc.specs.declared.payload.SetAnswer.the-variants as SetAnswers
+use Rattle.mvcc.specs.declared.handle.Handle.{Handle}
+use Rattle.mvcc.specs.handle.Handles.{handleOf}
+use Rattle.mvcc.specs.declared.begun.Begun.{Begun}
+use Rattle.mvcc.specs.request.Given.{refusedBy, begunWith}
+use Rattle.mvcc.specs.request.Checks.{orElse}
+use Rattle.mvcc.specs.request.Lists.{Dels}
+use Rattle.mvcc.specs.declared.report.Versions.{Versions}
+use Rattle.mvcc.specs.declared.report.Stated.{Stated}
+use Rattle.mvcc.specs.declared.report.Stated.the-variants as Stating
+use Rattle.mvcc.specs.start.Plan.{beginPlan}
+use Rattle.mvcc.specs.start.Begins.{begunBy, beginWith}
+use Rattle.mvcc.specs.read_only.Answers.{readingWith}
+use Rattle.mvcc.specs.as_of.Answers.{asOfWith}
+use Rattle.mvcc.specs.start.Promises.{Begins}
+use Rattle.mvcc.specs.read_only.Promises.{BeginsReading, States}
+use Rattle.mvcc.specs.as_of.Promises.{BeginsAsOf}
+use Rattle.mvcc.specs.read.Promises.{resumeAnswer, Resumes}
+use Rattle.mvcc.specs.undo.Plans.{allUsers}
+use Rattle.mvcc.specs.end.Plans.{writesOf, commitPlan, rollbackPlan}
+use Rattle.mvcc.specs.end.Promises.{Commits, commitAnswer, RollsBack, undoAnswer, rollbackAnswer}
+use Rattle.mvcc.proofs.end.EndLaws.{dels-done}
+use Rattle.isolation.specs.history.History.{After, Sight, unborn, status}
+use Rattle.isolation.specs.history.Records.{Map, look, Sorted}
+use Rattle.isolation.specs.history.Calls.{nextOf, setOf as snapOf, actives}
+use Rattle.isolation.proofs.history.EffectLaws.{in-actives}
+use Rattle.isolation.proofs.history.RunLaws.{run-born, run-unborn, begin-new, run-open, run-sorted}
+use Rattle.isolation.specs.records.Stored.{keyOrder, sightOf}
+use Rattle.isolation.proofs.records.OrderLaws.{order}
+use Rattle.isolation.proofs.records.ActiveLaws.{active-count, actives-rise}
+use Rattle.isolation.proofs.records.ReadLaws.{next-pairs}
+use Rattle.isolation.proofs.records.EndLaws.{users-pairs}
 use Rattle.isolation.specs.World.{World, Calls, begins, Gave, Given, meaning}
 use Rattle.isolation.specs.Views.{Usable, Tells}
 use Rattle.isolation.proofs.GivenLaws.{began-trace}

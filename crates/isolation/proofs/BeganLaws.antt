@@ -14,41 +14,41 @@ use Rattle.keycode.specs.Buffer.{put}
 use Rattle.keycode.specs.Limits.{maxOpen}
 use Rattle.keycode.specs.declared.refusal.Refusal.the-variants.{NoSuchVersion}
 use Rattle.keycode.proofs.Basics.{nope}
-use Rattle.keys.specs.Keys.{nextVersion, txnActiveSnapshot}
-use Rattle.keydir.specs.Place.{All}
-use Rattle.recovery.specs.declared.request.Used.{Used}
-use Rattle.recovery.specs.declared.request.Changed.{Changed}
-use Rattle.recovery.specs.declared.request.Changed.the-variants.{Done, Refused}
-use Rattle.recovery.specs.Recover.{mapOf}
-use Rattle.recovery.specs.Agree.{Agrees}
-use Rattle.recovery.specs.Promises.{changedNumber}
-use Rattle.changes.specs.Append.{sizeAll, bytesAll, afterAll}
-use Rattle.payloads.specs.declared.SetAnswer.the-variants as SetAnswers
-use Rattle.payloads.specs.declared.SetRead.{SetRead}
-use Rattle.handle.specs.Handles.{rising, handleOf}
-use Rattle.payloads.specs.Payloads.{Versions, setBytes}
-use Rattle.handle.proofs.HandleLaws.{made-set}
-use Rattle.txn.specs.declared.begun.Begun.{Begun}
-use Rattle.mvcc_begin.specs.Plan.{planBy, beginPlan, planOf}
-use Rattle.txn.specs.Given.{refusedBy}
-use Rattle.txn.proofs.CheckLaws.{not-done}
-use Rattle.mvcc_view.specs.Answers.{readingWith}
-use Rattle.mvcc_past.specs.Answers.{asOfWith}
-use Rattle.mvcc_begin.specs.Begins.{beginWith}
-use Rattle.mvcc_begin.specs.Promises.{Begins}
-use Rattle.mvcc_view.specs.Promises.{BeginsReading}
-use Rattle.mvcc_past.specs.Promises.{BeginsAsOf}
-use Rattle.history.specs.Records.{Rec, nextRec, activeRec, snapRec, wroteRec, verRec, plainRec, keyOf, Map, look, Sorted}
-use Rattle.history.specs.Calls.{nextOf, setOf as snapOf, actives, beginHandle, beginMap}
-use Rattle.history.specs.Run.{Entry, beginE, readE, asOfE, otherE, Trace, readHandle, asOfHandle, do-begin, do-read, do-asOf}
-use Rattle.history.specs.Run as H
-use Rattle.history.proofs.RunLaws.{run-sorted}
-use Rattle.records.specs.Stored.{keyOrder, Fine, sightOf}
-use Rattle.records.proofs.OrderLaws.{order}
-use Rattle.records.proofs.PlanLaws.{begin-pairs}
-use Rattle.records.proofs.FineLaws.{fine-begin}
-use Rattle.records.proofs.ActiveLaws.{active-pairs, actives-fit, actives-rise}
-use Rattle.records.proofs.ReadLaws.{look-says, next-pairs, snapshot-pairs}
+use Rattle.keycode.specs.key.Keys.{nextVersion, txnActiveSnapshot}
+use Rattle.bitcask.specs.keydir.Place.{All}
+use Rattle.bitcask.specs.declared.request.Used.{Used}
+use Rattle.bitcask.specs.declared.request.Changed.{Changed}
+use Rattle.bitcask.specs.declared.request.Changed.the-variants.{Done, Refused}
+use Rattle.bitcask.specs.recovery.Recover.{mapOf}
+use Rattle.bitcask.specs.recovery.Agree.{Agrees}
+use Rattle.bitcask.specs.recovery.Promises.{changedNumber}
+use Rattle.bitcask.specs.change.Append.{sizeAll, bytesAll, afterAll}
+use Rattle.mvcc.specs.declared.payload.SetAnswer.the-variants as SetAnswers
+use Rattle.mvcc.specs.declared.payload.SetRead.{SetRead}
+use Rattle.mvcc.specs.handle.Handles.{rising, handleOf}
+use Rattle.mvcc.specs.payload.Payloads.{Versions, setBytes}
+use Rattle.mvcc.proofs.handle.HandleLaws.{made-set}
+use Rattle.mvcc.specs.declared.begun.Begun.{Begun}
+use Rattle.mvcc.specs.start.Plan.{planBy, beginPlan, planOf}
+use Rattle.mvcc.specs.request.Given.{refusedBy}
+use Rattle.mvcc.proofs.request.CheckLaws.{not-done}
+use Rattle.mvcc.specs.read_only.Answers.{readingWith}
+use Rattle.mvcc.specs.as_of.Answers.{asOfWith}
+use Rattle.mvcc.specs.start.Begins.{beginWith}
+use Rattle.mvcc.specs.start.Promises.{Begins}
+use Rattle.mvcc.specs.read_only.Promises.{BeginsReading}
+use Rattle.mvcc.specs.as_of.Promises.{BeginsAsOf}
+use Rattle.isolation.specs.history.Records.{Rec, nextRec, activeRec, snapRec, wroteRec, verRec, plainRec, keyOf, Map, look, Sorted}
+use Rattle.isolation.specs.history.Calls.{nextOf, setOf as snapOf, actives, beginHandle, beginMap}
+use Rattle.isolation.specs.history.Run.{Entry, beginE, readE, asOfE, otherE, Trace, readHandle, asOfHandle, do-begin, do-read, do-asOf}
+use Rattle.isolation.specs.history.Run as H
+use Rattle.isolation.proofs.history.RunLaws.{run-sorted}
+use Rattle.isolation.specs.records.Stored.{keyOrder, Fine, sightOf}
+use Rattle.isolation.proofs.records.OrderLaws.{order}
+use Rattle.isolation.proofs.records.PlanLaws.{begin-pairs}
+use Rattle.isolation.proofs.records.FineLaws.{fine-begin}
+use Rattle.isolation.proofs.records.ActiveLaws.{active-pairs, actives-fit, actives-rise}
+use Rattle.isolation.proofs.records.ReadLaws.{look-says, next-pairs, snapshot-pairs}
 use Rattle.isolation.specs.World.{World, begins, beginsReading, beginsAsOf, Calls, changedTo, onDone, traceOf}
 use Rattle.isolation.proofs.KeptLaws.{Sound, Kept, Ready, given-cases, kept-other, kept-refused, refused-same}
 use Rattle.isolation.proofs.BegunLaws.{begin-says, reading-says, as-of-says, sight-made, handle-sound}

@@ -12,23 +12,23 @@ use Rattle.keycode.specs.Tests.{pick}
 use Rattle.keycode.specs.Limits.{maxOpen}
 use Rattle.keycode.specs.declared.refusal.Refusal.{Refusal}
 use Rattle.keycode.specs.declared.refusal.Refusal.the-variants.{TooManyOpen, NoSuchVersion, VersionsSpent}
-use Rattle.recovery.specs.declared.request.Changed.{Changed}
-use Rattle.recovery.specs.declared.request.Changed.the-variants.{Done, Refused}
-use Rattle.recovery.specs.Promises.{changedNumber}
-use Rattle.payloads.specs.declared.SetAnswer.the-variants as SetAnswers
-use Rattle.payloads.specs.declared.SetRead.{SetRead}
-use Rattle.handle.specs.Handles.{rising, handleOf}
-use Rattle.payloads.specs.Payloads.{Versions}
-use Rattle.handle.proofs.HandleLaws.{made-set, made-sound}
-use Rattle.txn.specs.declared.begun.Begun.{Begun}
-use Rattle.txn.specs.Given.{refusedBy, begunWith}
-use Rattle.txn.proofs.CheckLaws.{not-done}
-use Rattle.changes.specs.Append.{appendAnswer}
-use Rattle.mvcc_begin.specs.Plan.{beginPlan}
-use Rattle.mvcc_view.specs.Answers.{readingWith}
-use Rattle.mvcc_past.specs.Answers.{asOfWith}
-use Rattle.mvcc_begin.specs.Begins.{begunBy, beginWith}
-use Rattle.records.specs.Stored.{sightOf}
+use Rattle.bitcask.specs.declared.request.Changed.{Changed}
+use Rattle.bitcask.specs.declared.request.Changed.the-variants.{Done, Refused}
+use Rattle.bitcask.specs.recovery.Promises.{changedNumber}
+use Rattle.mvcc.specs.declared.payload.SetAnswer.the-variants as SetAnswers
+use Rattle.mvcc.specs.declared.payload.SetRead.{SetRead}
+use Rattle.mvcc.specs.handle.Handles.{rising, handleOf}
+use Rattle.mvcc.specs.payload.Payloads.{Versions}
+use Rattle.mvcc.proofs.handle.HandleLaws.{made-set, made-sound}
+use Rattle.mvcc.specs.declared.begun.Begun.{Begun}
+use Rattle.mvcc.specs.request.Given.{refusedBy, begunWith}
+use Rattle.mvcc.proofs.request.CheckLaws.{not-done}
+use Rattle.bitcask.specs.change.Append.{appendAnswer}
+use Rattle.mvcc.specs.start.Plan.{beginPlan}
+use Rattle.mvcc.specs.read_only.Answers.{readingWith}
+use Rattle.mvcc.specs.as_of.Answers.{asOfWith}
+use Rattle.mvcc.specs.start.Begins.{begunBy, beginWith}
+use Rattle.isolation.specs.records.Stored.{sightOf}
 use Rattle.isolation.proofs.KeptLaws.{Sound}
 
 -- ---- what an answer 0 says

@@ -8,29 +8,29 @@ use Rattle.keycode.specs.Tests.{pick, ifDone}
 use Rattle.keycode.specs.Buffer.{put}
 use Rattle.keycode.specs.declared.refusal.Refusal.the-variants.{BadStore}
 use Rattle.keycode.proofs.Basics.{nope}
-use Rattle.entry.specs.Entry.{Entry, del}
-use Rattle.keydir.specs.Place.{countOf}
-use Rattle.recovery.specs.declared.request.Changed.{Changed}
-use Rattle.recovery.specs.declared.request.Changed.the-variants as Change
-use Rattle.recovery.specs.Map.{Pair}
-use Rattle.recovery.specs.Recover.{mapOf}
-use Rattle.recovery.specs.Agree.{fit, Agrees}
-use Rattle.recovery.specs.Promises.{changedNumber}
-use Rattle.changes.specs.declared.append.Check.{Check}
-use Rattle.changes.specs.declared.append.Check.the-variants.{Fine, Refused}
-use Rattle.changes.specs.Append.{sizeAll, bytesAll, afterAll, appendAnswer}
-use Rattle.handle.specs.declared.handle.Handle.{Handle}
-use Rattle.handle.specs.Handles.{soundHandle}
-use Rattle.txn.specs.Checks.{activeKey, admitBy, orElse, openIn}
-use Rattle.txn.specs.Lists.{Dels, dels-none, dels-more, checkOf}
-use Rattle.txn.proofs.CheckLaws.{not-done}
-use Rattle.txn.proofs.FitLaws.{answer-fine, dels-append}
-use Rattle.tombs.specs.Plans.{cutsOf}
-use Rattle.undo.specs.Plans.{undosOf, allUsers}
-use Rattle.mvcc_end.specs.Plans.{writesOf, commitPlan, rollbackPlan}
-use Rattle.mvcc_end.specs.Promises.{Leaves, Commits, commitAnswer, RollsBack, undoAnswer, rollbackAnswer}
-use Rattle.mvcc_end.proofs.EndLaws.{dels-done}
-use Rattle.undo.proofs.UndoAgreeLaws.{undos-dels}
+use Rattle.bitcask.specs.entry.Entry.{Entry, del}
+use Rattle.bitcask.specs.keydir.Place.{countOf}
+use Rattle.bitcask.specs.declared.request.Changed.{Changed}
+use Rattle.bitcask.specs.declared.request.Changed.the-variants as Change
+use Rattle.bitcask.specs.recovery.Map.{Pair}
+use Rattle.bitcask.specs.recovery.Recover.{mapOf}
+use Rattle.bitcask.specs.recovery.Agree.{fit, Agrees}
+use Rattle.bitcask.specs.recovery.Promises.{changedNumber}
+use Rattle.bitcask.specs.declared.append.Check.{Check}
+use Rattle.bitcask.specs.declared.append.Check.the-variants.{Fine, Refused}
+use Rattle.bitcask.specs.change.Append.{sizeAll, bytesAll, afterAll, appendAnswer}
+use Rattle.mvcc.specs.declared.handle.Handle.{Handle}
+use Rattle.mvcc.specs.handle.Handles.{soundHandle}
+use Rattle.mvcc.specs.request.Checks.{activeKey, admitBy, orElse, openIn}
+use Rattle.mvcc.specs.request.Lists.{Dels, dels-none, dels-more, checkOf}
+use Rattle.mvcc.proofs.request.CheckLaws.{not-done}
+use Rattle.mvcc.proofs.request.FitLaws.{answer-fine, dels-append}
+use Rattle.mvcc.specs.delete_range.Plans.{cutsOf}
+use Rattle.mvcc.specs.undo.Plans.{undosOf, allUsers}
+use Rattle.mvcc.specs.end.Plans.{writesOf, commitPlan, rollbackPlan}
+use Rattle.mvcc.specs.end.Promises.{Leaves, Commits, commitAnswer, RollsBack, undoAnswer, rollbackAnswer}
+use Rattle.mvcc.proofs.end.EndLaws.{dels-done}
+use Rattle.mvcc.proofs.undo.UndoAgreeLaws.{undos-dels}
 
 -- ---- an answer 0 passed each test
 

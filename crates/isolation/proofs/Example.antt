@@ -12,20 +12,20 @@ use native.Mathlib.Omega.{arith}
 use lib.ListN.{length}
 use Rattle.keycode.specs.declared.refusal.Refusal.the-variants.{Absent, NotOpen, Conflict}
 use Rattle.keycode.proofs.Basics.{nope}
-use Rattle.recovery.specs.declared.request.Changed.{Changed}
-use Rattle.recovery.specs.declared.request.Changed.the-variants.{Refused}
+use Rattle.bitcask.specs.declared.request.Changed.{Changed}
+use Rattle.bitcask.specs.declared.request.Changed.the-variants.{Refused}
 use Rattle.bitcask.specs.declared.answers.Located.{Located}
 use Rattle.bitcask.specs.declared.answers.Located.the-variants as Got
-use Rattle.changes.specs.Append.{appendAnswer}
-use Rattle.handle.specs.declared.handle.Handle.{Handle}
-use Rattle.handle.specs.Handles.{handleOf}
-use Rattle.payloads.specs.Payloads.{valueBytes}
-use Rattle.txn.specs.Given.{begunWith}
-use Rattle.mvcc_read.specs.Promises.{Gets}
-use Rattle.mvcc_write.specs.Writes.{plan}
-use Rattle.mvcc_write.specs.Promises.{Writes}
-use Rattle.history.specs.History.{key≟, now, later, Clash, status, lastWrite, laid, past}
-use Rattle.history.specs.Run.{events}
+use Rattle.bitcask.specs.change.Append.{appendAnswer}
+use Rattle.mvcc.specs.declared.handle.Handle.{Handle}
+use Rattle.mvcc.specs.handle.Handles.{handleOf}
+use Rattle.mvcc.specs.payload.Payloads.{valueBytes}
+use Rattle.mvcc.specs.request.Given.{begunWith}
+use Rattle.mvcc.specs.read.Promises.{Gets}
+use Rattle.mvcc.specs.write.Writes.{plan}
+use Rattle.mvcc.specs.write.Promises.{Writes}
+use Rattle.isolation.specs.history.History.{key≟, now, later, Clash, status, lastWrite, laid, past}
+use Rattle.isolation.specs.history.Run.{events}
 use Rattle.isolation.specs.World.{World, Call, Step, opens, compacts, begins, beginsAsOf, gets, sets, commits, Calls, compacting, beginning, beginningAsOf, getting, setting, committing, Given, by-begin, by-asOf, handleIn, Fair, Run, first, opened, called, traceOf, meaning}
 use Rattle.isolation.specs.Views.{writer, asOf, Shows, Meets, clashes, free}
 use Rattle.isolation.proofs.ExampleSteps.{done, a, x, y, h₁, h₂, h₃, back₂, back₃, found, blank, vacant, log₁, log₃, log₅, log₆, table₁, table₃, table₅, table₆, contracts}

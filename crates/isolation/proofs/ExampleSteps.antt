@@ -13,46 +13,46 @@ use Rattle.keycode.specs.Order.{compareBytes, compareNat}
 use Rattle.keycode.specs.Strings.{escape, escapeBody, escapeByte, scanned}
 use Rattle.keycode.specs.declared.refusal.Refusal.the-variants.{Absent, Conflict}
 use Rattle.keycode.proofs.Basics.{nope}
-use Rattle.keys.specs.Keys.{decodeWhy, keyOf as readKey, stringAt, onEnded, exactly}
-use Rattle.entry.specs.Entry.{bytesOf}
-use Rattle.entry.specs.Length.{lengthOf}
-use Rattle.entry.specs.Reading.{wordAt, headAt, entryAt}
-use Rattle.keydir.specs.Slots.{tableOf, wordsOf, keyOf, valueOf, insertAt, replaceAt, removeAt}
-use Rattle.keydir.specs.Place.{placeIn}
-use Rattle.recovery.specs.declared.request.Used.{Used}
-use Rattle.recovery.specs.declared.request.Changed.{Changed}
-use Rattle.recovery.specs.declared.request.Changed.the-variants.{Done, Refused}
-use Rattle.recovery.specs.Map.{lookIn, putIn, cutIn, after}
-use Rattle.recovery.specs.Recover.{items, itemsOf, ends, step, fold, recovered, view, mapOf, stepIn, run}
-use Rattle.recovery.specs.Agree.{fit}
-use Rattle.recovery.specs.Promises.{Opens, openAnswer, openTable}
+use Rattle.keycode.specs.key.Keys.{decodeWhy, keyOf as readKey, stringAt, onEnded, exactly}
+use Rattle.bitcask.specs.entry.Entry.{bytesOf}
+use Rattle.bitcask.specs.entry.Length.{lengthOf}
+use Rattle.bitcask.specs.entry.Reading.{wordAt, headAt, entryAt}
+use Rattle.bitcask.specs.keydir.Slots.{tableOf, wordsOf, keyOf, valueOf, insertAt, replaceAt, removeAt}
+use Rattle.bitcask.specs.keydir.Place.{placeIn}
+use Rattle.bitcask.specs.declared.request.Used.{Used}
+use Rattle.bitcask.specs.declared.request.Changed.{Changed}
+use Rattle.bitcask.specs.declared.request.Changed.the-variants.{Done, Refused}
+use Rattle.bitcask.specs.recovery.Map.{lookIn, putIn, cutIn, after}
+use Rattle.bitcask.specs.recovery.Recover.{items, itemsOf, ends, step, fold, recovered, view, mapOf, stepIn, run}
+use Rattle.bitcask.specs.recovery.Agree.{fit}
+use Rattle.bitcask.specs.recovery.Promises.{Opens, openAnswer, openTable}
 use Rattle.bitcask.specs.declared.answers.Located.{Located}
 use Rattle.bitcask.specs.declared.answers.Located.the-variants as Got
-use Rattle.changes.specs.Append.{sizeAll, bytesAll, afterAll, appendAnswer}
-use Rattle.compaction.specs.Compaction.{entriesOf}
-use Rattle.compaction.specs.Promises.{Compacts}
-use Rattle.handle.specs.declared.handle.Handle.{Handle}
-use Rattle.handle.specs.Handles.{handleOf, setOf, soundHandle, rising, sees, memb, lowestOf, firstOr}
-use Rattle.payloads.specs.Payloads.{setBytes, setIn, versionsOf, setFor, versionIn, valueBytes, valueIn}
-use Rattle.tombs.specs.Cuts.{Extends}
-use Rattle.tombs.specs.Plans.{cutsOf}
-use Rattle.txn.specs.Given.{begunWith}
-use Rattle.txn.specs.Ranges.{pairsOf, begins, inside, keep}
-use Rattle.txn.specs.Looks.{liveIn}
-use Rattle.txn.specs.Checks.{openBy, ownVersion, admitBy}
-use Rattle.active.specs.Active.{nextAt, nextOf, activeAt, activeKeys, activeIn, versionsIn, keysOf}
-use Rattle.mvcc_begin.specs.Plan.{planBy, snapshotBy}
-use Rattle.mvcc_past.specs.Answers.{snapshotRead}
-use Rattle.mvcc_begin.specs.Promises.{Begins}
-use Rattle.mvcc_past.specs.Promises.{BeginsAsOf}
-use Rattle.seen.specs.Seen.{lastSeen, seenIn, valueSays}
-use Rattle.mvcc_read.specs.Promises.{Gets, getAnswer}
-use Rattle.mvcc_write.specs.Writes.{plan, allowBy}
-use Rattle.conflicts.specs.Conflicts.{searchBy, searched, seenBytes}
-use Rattle.lays.specs.Lays.{sizesBy}
-use Rattle.mvcc_write.specs.Promises.{Writes, writeAnswer, mayWrite}
-use Rattle.mvcc_end.specs.Plans.{commitPlan, writesOf}
-use Rattle.mvcc_end.specs.Promises.{Commits, commitAnswer, among}
+use Rattle.bitcask.specs.change.Append.{sizeAll, bytesAll, afterAll, appendAnswer}
+use Rattle.bitcask.specs.compaction.Compaction.{entriesOf}
+use Rattle.bitcask.specs.compaction.Promises.{Compacts}
+use Rattle.mvcc.specs.declared.handle.Handle.{Handle}
+use Rattle.mvcc.specs.handle.Handles.{handleOf, setOf, soundHandle, rising, sees, memb, lowestOf, firstOr}
+use Rattle.mvcc.specs.payload.Payloads.{setBytes, setIn, versionsOf, setFor, versionIn, valueBytes, valueIn}
+use Rattle.mvcc.specs.delete_range.Cuts.{Extends}
+use Rattle.mvcc.specs.delete_range.Plans.{cutsOf}
+use Rattle.mvcc.specs.request.Given.{begunWith}
+use Rattle.mvcc.specs.request.Ranges.{pairsOf, begins, inside, keep}
+use Rattle.mvcc.specs.request.Looks.{liveIn}
+use Rattle.mvcc.specs.request.Checks.{openBy, ownVersion, admitBy}
+use Rattle.mvcc.specs.snapshot.Active.{nextAt, nextOf, activeAt, activeKeys, activeIn, versionsIn, keysOf}
+use Rattle.mvcc.specs.start.Plan.{planBy, snapshotBy}
+use Rattle.mvcc.specs.as_of.Answers.{snapshotRead}
+use Rattle.mvcc.specs.start.Promises.{Begins}
+use Rattle.mvcc.specs.as_of.Promises.{BeginsAsOf}
+use Rattle.mvcc.specs.version.Seen.{lastSeen, seenIn, valueSays}
+use Rattle.mvcc.specs.read.Promises.{Gets, getAnswer}
+use Rattle.mvcc.specs.write.Writes.{plan, allowBy}
+use Rattle.mvcc.specs.conflict.Conflicts.{searchBy, searched, seenBytes}
+use Rattle.mvcc.specs.append.Lays.{sizesBy}
+use Rattle.mvcc.specs.write.Promises.{Writes, writeAnswer, mayWrite}
+use Rattle.mvcc.specs.end.Plans.{commitPlan, writesOf}
+use Rattle.mvcc.specs.end.Promises.{Commits, commitAnswer, among}
 
 abbrev pub done : ℕ → Changed
 done n = Done (record { len = n })

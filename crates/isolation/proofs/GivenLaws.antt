@@ -4,17 +4,17 @@ use Prim.Native.Nat.{ℕ}
 use mathlib.Core.Path.{_≡_, refl, ap, _∙_, subst}
 use mathlib.Core.Logic.{_⊎_, inl, inr}
 use mathlib.Core.List.{List, _∷_}
-use Rattle.recovery.specs.declared.request.Used.{Used}
-use Rattle.recovery.specs.declared.request.Changed.{Changed}
-use Rattle.recovery.specs.declared.request.Changed.the-variants.{Done, Refused}
-use Rattle.recovery.specs.Promises.{changedNumber}
-use Rattle.handle.specs.declared.handle.Handle.{Handle}
-use Rattle.txn.specs.declared.begun.Begun.{Begun}
-use Rattle.txn.proofs.CheckLaws.{not-done}
-use Rattle.history.specs.History.{After, now, later}
-use Rattle.history.specs.Run.{Entry, beginE, readE, asOfE, otherE, Trace}
-use Rattle.history.specs.Run as H
-use Rattle.records.specs.Stored.{sightOf}
+use Rattle.bitcask.specs.declared.request.Used.{Used}
+use Rattle.bitcask.specs.declared.request.Changed.{Changed}
+use Rattle.bitcask.specs.declared.request.Changed.the-variants.{Done, Refused}
+use Rattle.bitcask.specs.recovery.Promises.{changedNumber}
+use Rattle.mvcc.specs.declared.handle.Handle.{Handle}
+use Rattle.mvcc.specs.declared.begun.Begun.{Begun}
+use Rattle.mvcc.proofs.request.CheckLaws.{not-done}
+use Rattle.isolation.specs.history.History.{After, now, later}
+use Rattle.isolation.specs.history.Run.{Entry, beginE, readE, asOfE, otherE, Trace}
+use Rattle.isolation.specs.history.Run as H
+use Rattle.isolation.specs.records.Stored.{sightOf}
 use Rattle.isolation.specs.World.{Call, begins, beginsReading, beginsAsOf, Calls, Gave, Given, by-begin, by-reading, by-asOf, onDone, entryOf, traceOf}
 
 -- ---- later calls

@@ -6,14 +6,14 @@ use mathlib.Core.Bool.{Bool, true}
 use mathlib.Core.Option.{none, some}
 use mathlib.Core.List.{List, [], _∷_}
 use Rattle.keycode.proofs.Basics.{nope}
-use Rattle.keydir.specs.Place.{all-none}
-use Rattle.recovery.specs.declared.request.Changed.{Changed}
-use Rattle.recovery.specs.Recover.{items, itemsOf, fold, recovered, view, mapOf}
-use Rattle.handle.specs.declared.handle.Handle.{Handle}
-use Rattle.history.specs.History.{After, now, later}
-use Rattle.history.specs.Records.{Map}
-use Rattle.history.specs.Run.{run-empty, otherE}
-use Rattle.records.specs.Stored.{pairsIn}
+use Rattle.bitcask.specs.keydir.Place.{all-none}
+use Rattle.bitcask.specs.declared.request.Changed.{Changed}
+use Rattle.bitcask.specs.recovery.Recover.{items, itemsOf, fold, recovered, view, mapOf}
+use Rattle.mvcc.specs.declared.handle.Handle.{Handle}
+use Rattle.isolation.specs.history.History.{After, now, later}
+use Rattle.isolation.specs.history.Records.{Map}
+use Rattle.isolation.specs.history.Run.{run-empty, otherE}
+use Rattle.isolation.specs.records.Stored.{pairsIn}
 use Rattle.isolation.specs.World.{World, Call, opens, Calls, Step, compacting, beginning, beginningReading, beginningAsOf, resuming, getting, setting, deleting, scanning, scanningPrefix, committing, rollingBack, gettingPlain, settingPlain, stating, counting, looking, stepping, Given, by-begin, by-reading, by-asOf, Fair, Run, first, opened, called, entryOf, traceOf}
 use Rattle.isolation.proofs.KeptLaws.{Kept, Ready, given-cases, kept-other, kept-compacted, kept-opened}
 use Rattle.isolation.proofs.BeganLaws.{begun, made-reading, made-as-of}

@@ -12,38 +12,38 @@ use native.Mathlib.Omega.{arith}
 use lib.ListN.{length}
 use Rattle.keycode.specs.Limits.{maxKey, maxValue, maxLog}
 use Rattle.keycode.specs.declared.refusal.Refusal.the-variants.{NotOpen, NoSuchVersion}
-use Rattle.keydir.specs.Slots.{slotWords}
-use Rattle.recovery.specs.declared.request.Changed.{Changed}
-use Rattle.recovery.specs.declared.request.Changed.the-variants as Change
-use Rattle.recovery.specs.Agree.{Agrees}
-use Rattle.recovery.specs.Promises.{changedNumber, Opens}
-use Rattle.recovery.proofs.AgreeLaws.{agrees-sound}
-use Rattle.recovery.proofs.OpenLaws.{open-empty}
+use Rattle.bitcask.specs.keydir.Slots.{slotWords}
+use Rattle.bitcask.specs.declared.request.Changed.{Changed}
+use Rattle.bitcask.specs.declared.request.Changed.the-variants as Change
+use Rattle.bitcask.specs.recovery.Agree.{Agrees}
+use Rattle.bitcask.specs.recovery.Promises.{changedNumber, Opens}
+use Rattle.bitcask.proofs.recovery.AgreeLaws.{agrees-sound}
+use Rattle.bitcask.proofs.recovery.OpenLaws.{open-empty}
 use Rattle.bitcask.specs.declared.answers.Bound.{Bound}
 use Rattle.bitcask.specs.declared.answers.Located.{Located}
 use Rattle.bitcask.specs.declared.answers.Located.the-variants as Got
 use Rattle.bitcask.specs.declared.answers.Stepped.{Stepped}
 use Rattle.bitcask.specs.declared.answers.Stepped.the-variants as Step
-use Rattle.bitcask.specs.Ranks.{admitted}
-use Rattle.changes.specs.Append.{appendAnswer}
-use Rattle.handle.specs.declared.handle.Handle.{Handle}
-use Rattle.payloads.specs.Payloads.{valueBytes}
-use Rattle.txn.specs.declared.begun.Begun.{Begun}
-use Rattle.txn.specs.Given.{refusedBy, begunWith}
-use Rattle.mvcc_view.specs.declared.status.Versions.{Versions}
-use Rattle.mvcc_view.specs.declared.status.Stated.{Stated}
-use Rattle.mvcc_view.specs.declared.status.Stated.the-variants as Stating
-use Rattle.mvcc_begin.specs.Promises.{Begins}
-use Rattle.mvcc_view.specs.Promises.{BeginsReading, States}
-use Rattle.mvcc_past.specs.Promises.{BeginsAsOf}
-use Rattle.mvcc_read.specs.Promises.{Gets, Resumes}
-use Rattle.mvcc_write.specs.Writes.{plan}
-use Rattle.mvcc_write.specs.Promises.{Writes}
-use Rattle.mvcc_scan.specs.Bounds.{keysFit, prefixFits}
-use Rattle.mvcc_scan.specs.Promises.{Scanning, Scans, ScansPrefix}
-use Rattle.mvcc_end.specs.Promises.{Commits, RollsBack}
-use Rattle.history.specs.History.{Key, Bytes, After, unborn, opened, status}
-use Rattle.records.specs.Scans.{prefixPast}
+use Rattle.bitcask.specs.read.Ranks.{admitted}
+use Rattle.bitcask.specs.change.Append.{appendAnswer}
+use Rattle.mvcc.specs.declared.handle.Handle.{Handle}
+use Rattle.mvcc.specs.payload.Payloads.{valueBytes}
+use Rattle.mvcc.specs.declared.begun.Begun.{Begun}
+use Rattle.mvcc.specs.request.Given.{refusedBy, begunWith}
+use Rattle.mvcc.specs.declared.report.Versions.{Versions}
+use Rattle.mvcc.specs.declared.report.Stated.{Stated}
+use Rattle.mvcc.specs.declared.report.Stated.the-variants as Stating
+use Rattle.mvcc.specs.start.Promises.{Begins}
+use Rattle.mvcc.specs.read_only.Promises.{BeginsReading, States}
+use Rattle.mvcc.specs.as_of.Promises.{BeginsAsOf}
+use Rattle.mvcc.specs.read.Promises.{Gets, Resumes}
+use Rattle.mvcc.specs.write.Writes.{plan}
+use Rattle.mvcc.specs.write.Promises.{Writes}
+use Rattle.mvcc.specs.scan.Bounds.{keysFit, prefixFits}
+use Rattle.mvcc.specs.scan.Promises.{Scanning, Scans, ScansPrefix}
+use Rattle.mvcc.specs.end.Promises.{Commits, RollsBack}
+use Rattle.isolation.specs.history.History.{Key, Bytes, After, unborn, opened, status}
+use Rattle.isolation.specs.records.Scans.{prefixPast}
 use Rattle.isolation.specs.World.{World, Calls, begins, Gave, Given, Run, meaning}
 use Rattle.isolation.specs.Views.{Usable, Sees, Shows, Meets, sizeIn, Tells}
 use Rattle.isolation.specs.Shown.{ShowsFirst}

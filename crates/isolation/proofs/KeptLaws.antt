@@ -14,26 +14,26 @@ use Rattle.keycode.specs.declared.refusal.Refusal.{Refusal}
 use Rattle.keycode.specs.declared.refusal.Refusal.the-variants.{LogFull, BadRequest}
 use Rattle.keycode.proofs.Basics.{nope}
 use Rattle.keycode.proofs.BufferLaws.{refused-stays}
-use Rattle.keydir.specs.Place.{All}
-use Rattle.recovery.specs.declared.request.Used.{Used}
-use Rattle.recovery.specs.declared.request.Changed.{Changed}
-use Rattle.recovery.specs.declared.request.Changed.the-variants.{Done, Refused}
-use Rattle.recovery.specs.Recover.{mapOf}
-use Rattle.recovery.specs.Agree.{fit, Agrees}
-use Rattle.recovery.specs.Promises.{Opens}
-use Rattle.recovery.proofs.OpenLaws.{open-agrees, open-map}
-use Rattle.changes.specs.Append.{sizeAll}
-use Rattle.compaction.specs.Compaction.{entriesOf}
-use Rattle.compaction.specs.Promises.{Compacts, compactAnswer}
-use Rattle.handle.specs.declared.handle.Handle.{Handle}
-use Rattle.handle.specs.Handles.{setOf, soundHandle}
-use Rattle.payloads.specs.Payloads.{Versions}
-use Rattle.txn.specs.declared.begun.Begun.{Begun}
-use Rattle.history.specs.History.{After}
-use Rattle.history.specs.Records.{Map}
-use Rattle.history.specs.Run.{Entry, otherE, Trace, do-other}
-use Rattle.history.specs.Run as H
-use Rattle.records.specs.Stored.{pairsIn, keyOrder, Fine}
+use Rattle.bitcask.specs.keydir.Place.{All}
+use Rattle.bitcask.specs.declared.request.Used.{Used}
+use Rattle.bitcask.specs.declared.request.Changed.{Changed}
+use Rattle.bitcask.specs.declared.request.Changed.the-variants.{Done, Refused}
+use Rattle.bitcask.specs.recovery.Recover.{mapOf}
+use Rattle.bitcask.specs.recovery.Agree.{fit, Agrees}
+use Rattle.bitcask.specs.recovery.Promises.{Opens}
+use Rattle.bitcask.proofs.recovery.OpenLaws.{open-agrees, open-map}
+use Rattle.bitcask.specs.change.Append.{sizeAll}
+use Rattle.bitcask.specs.compaction.Compaction.{entriesOf}
+use Rattle.bitcask.specs.compaction.Promises.{Compacts, compactAnswer}
+use Rattle.mvcc.specs.declared.handle.Handle.{Handle}
+use Rattle.mvcc.specs.handle.Handles.{setOf, soundHandle}
+use Rattle.mvcc.specs.payload.Payloads.{Versions}
+use Rattle.mvcc.specs.declared.begun.Begun.{Begun}
+use Rattle.isolation.specs.history.History.{After}
+use Rattle.isolation.specs.history.Records.{Map}
+use Rattle.isolation.specs.history.Run.{Entry, otherE, Trace, do-other}
+use Rattle.isolation.specs.history.Run as H
+use Rattle.isolation.specs.records.Stored.{pairsIn, keyOrder, Fine}
 use Rattle.isolation.specs.World.{World, Call, begins, beginsReading, beginsAsOf, Calls, usedBy, isDone, compactedTo, Gave, Given, by-begin, by-reading, by-asOf, entryOf, traceOf}
 use Rattle.isolation.proofs.GivenLaws.{after-cons}
 

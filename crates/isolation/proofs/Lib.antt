@@ -1,4 +1,6 @@
 -- Snapshot isolation, proved over what the public calls state.
+pub mod history
+pub mod records
 pub mod GivenLaws
 pub mod EndedLaws
 pub mod KeptLaws

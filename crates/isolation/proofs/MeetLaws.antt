@@ -11,23 +11,23 @@ use borrow.Author.Tests.{le-ltb}
 use Rattle.keycode.specs.Limits.{maxKey, maxValue}
 use Rattle.keycode.specs.declared.refusal.Refusal.the-variants.{Absent, ReadOnly, NotOpen, KeyTooLong, ValueTooLong, Conflict, LogFull, TableFull, TooManyOpen, NoSuchVersion, VersionsSpent, BadStore, BadRequest}
 use Rattle.keycode.proofs.Basics.{nope}
-use Rattle.recovery.specs.declared.request.Changed.{Changed}
-use Rattle.recovery.specs.declared.request.Changed.the-variants as Change
-use Rattle.recovery.specs.Promises.{changedNumber}
-use Rattle.changes.specs.Append.{appendAnswer}
-use Rattle.handle.specs.declared.handle.Handle.{Handle}
-use Rattle.payloads.specs.Payloads.{valueBytes}
-use Rattle.txn.specs.declared.begun.Begun.{Begun}
-use Rattle.mvcc_write.specs.Writes.{plan}
-use Rattle.mvcc_write.specs.Promises.{Writes}
-use Rattle.history.specs.History.{Key, Bytes, After, Clash, opened, status}
-use Rattle.history.specs.Records.{Map}
-use Rattle.history.specs.Calls.{conflict}
-use Rattle.history.specs.Run.{tooLong, writeNumber}
-use Rattle.history.specs.Run as H
-use Rattle.history.proofs.RunLaws.{conflict-right, write-open}
-use Rattle.records.specs.Stored.{sightOf}
-use Rattle.records.proofs.OrderLaws.{order}
+use Rattle.bitcask.specs.declared.request.Changed.{Changed}
+use Rattle.bitcask.specs.declared.request.Changed.the-variants as Change
+use Rattle.bitcask.specs.recovery.Promises.{changedNumber}
+use Rattle.bitcask.specs.change.Append.{appendAnswer}
+use Rattle.mvcc.specs.declared.handle.Handle.{Handle}
+use Rattle.mvcc.specs.payload.Payloads.{valueBytes}
+use Rattle.mvcc.specs.declared.begun.Begun.{Begun}
+use Rattle.mvcc.specs.write.Writes.{plan}
+use Rattle.mvcc.specs.write.Promises.{Writes}
+use Rattle.isolation.specs.history.History.{Key, Bytes, After, Clash, opened, status}
+use Rattle.isolation.specs.history.Records.{Map}
+use Rattle.isolation.specs.history.Calls.{conflict}
+use Rattle.isolation.specs.history.Run.{tooLong, writeNumber}
+use Rattle.isolation.specs.history.Run as H
+use Rattle.isolation.proofs.history.RunLaws.{conflict-right, write-open}
+use Rattle.isolation.specs.records.Stored.{sightOf}
+use Rattle.isolation.proofs.records.OrderLaws.{order}
 use Rattle.isolation.specs.World.{World, Calls, begins, Gave, by-begin, meaning}
 use Rattle.isolation.specs.Views.{Meets, clashes, free, sizeIn}
 use Rattle.isolation.proofs.GivenLaws.{began-trace}

@@ -7,19 +7,19 @@ use mathlib.Core.List.{List}
 use native.Mathlib.Omega.{arith}
 use borrow.Author.Tests.{ne-eqb}
 use Rattle.keycode.specs.Tests.{pick}
-use Rattle.keys.specs.Keys.{txnActive}
-use Rattle.recovery.specs.Map.{Pair}
-use Rattle.changes.specs.declared.append.Check.the-variants.{Fine}
-use Rattle.handle.specs.declared.handle.Handle.{Handle}
-use Rattle.txn.specs.Looks.{liveIn}
-use Rattle.txn.specs.Checks.{activeKey, ownVersion, openBy, admitBy, openIn}
-use Rattle.history.specs.Records.{Map, look}
-use Rattle.history.specs.Store.{isSome}
-use Rattle.history.specs.Run.{usable}
-use Rattle.history.proofs.RunLaws.{run-sorted}
-use Rattle.records.specs.Stored.{sightOf}
-use Rattle.records.proofs.OrderLaws.{order}
-use Rattle.records.proofs.PairLaws.{live-pairs}
+use Rattle.keycode.specs.key.Keys.{txnActive}
+use Rattle.bitcask.specs.recovery.Map.{Pair}
+use Rattle.bitcask.specs.declared.append.Check.the-variants.{Fine}
+use Rattle.mvcc.specs.declared.handle.Handle.{Handle}
+use Rattle.mvcc.specs.request.Looks.{liveIn}
+use Rattle.mvcc.specs.request.Checks.{activeKey, ownVersion, openBy, admitBy, openIn}
+use Rattle.isolation.specs.history.Records.{Map, look}
+use Rattle.isolation.specs.history.Store.{isSome}
+use Rattle.isolation.specs.history.Run.{usable}
+use Rattle.isolation.proofs.history.RunLaws.{run-sorted}
+use Rattle.isolation.specs.records.Stored.{sightOf}
+use Rattle.isolation.proofs.records.OrderLaws.{order}
+use Rattle.isolation.proofs.records.PairLaws.{live-pairs}
 use Rattle.isolation.specs.World.{World, Calls}
 use Rattle.isolation.proofs.EndedLaws.{admits}
 use Rattle.isolation.proofs.KeptLaws.{Sound, Kept, Ready}

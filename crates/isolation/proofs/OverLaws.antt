@@ -8,31 +8,31 @@ use lib.Dec.{leb}
 use lib.ListN.{length}
 use Rattle.keycode.specs.Limits.{maxKey, maxValue}
 use Rattle.keycode.specs.declared.refusal.Refusal.the-variants.{NotOpen}
-use Rattle.keys.specs.Keys.{txnActive}
-use Rattle.recovery.specs.declared.request.Changed.{Changed}
-use Rattle.recovery.specs.declared.request.Changed.the-variants as Change
-use Rattle.recovery.specs.Agree.{fit}
-use Rattle.changes.specs.declared.append.Check.the-variants.{Refused}
+use Rattle.keycode.specs.key.Keys.{txnActive}
+use Rattle.bitcask.specs.declared.request.Changed.{Changed}
+use Rattle.bitcask.specs.declared.request.Changed.the-variants as Change
+use Rattle.bitcask.specs.recovery.Agree.{fit}
+use Rattle.bitcask.specs.declared.append.Check.the-variants.{Refused}
 use Rattle.bitcask.specs.declared.answers.Located.{Located}
 use Rattle.bitcask.specs.declared.answers.Located.the-variants as Got
 use Rattle.bitcask.specs.declared.answers.Stepped.{Stepped}
 use Rattle.bitcask.specs.declared.answers.Stepped.the-variants as Step
-use Rattle.handle.specs.declared.handle.Handle.{Handle}
-use Rattle.handle.specs.Handles.{soundHandle}
-use Rattle.txn.specs.declared.begun.Begun.{Begun}
-use Rattle.txn.specs.Given.{refusedBy}
-use Rattle.txn.specs.Checks.{admitBy, openIn}
-use Rattle.mvcc_read.specs.Promises.{getAnswer, Gets, resumeAnswer, Resumes}
-use Rattle.mvcc_write.specs.Writes.{allowBy}
-use Rattle.mvcc_write.specs.Promises.{Writes, writeAnswer}
-use Rattle.mvcc_scan.specs.Promises.{keysBy, scanAnswer, Scanning}
-use Rattle.mvcc_end.specs.Promises.{Commits, commitAnswer, RollsBack, rollbackAnswer}
-use Rattle.history.specs.History.{After, Status, unborn, opened, done, rolled, status, isOpen}
-use Rattle.history.specs.Records.{Map, look}
-use Rattle.history.specs.Store.{isSome}
-use Rattle.history.proofs.RunLaws.{run-open, begin-own}
-use Rattle.records.specs.Stored.{sightOf}
-use Rattle.records.proofs.OrderLaws.{order}
+use Rattle.mvcc.specs.declared.handle.Handle.{Handle}
+use Rattle.mvcc.specs.handle.Handles.{soundHandle}
+use Rattle.mvcc.specs.declared.begun.Begun.{Begun}
+use Rattle.mvcc.specs.request.Given.{refusedBy}
+use Rattle.mvcc.specs.request.Checks.{admitBy, openIn}
+use Rattle.mvcc.specs.read.Promises.{getAnswer, Gets, resumeAnswer, Resumes}
+use Rattle.mvcc.specs.write.Writes.{allowBy}
+use Rattle.mvcc.specs.write.Promises.{Writes, writeAnswer}
+use Rattle.mvcc.specs.scan.Promises.{keysBy, scanAnswer, Scanning}
+use Rattle.mvcc.specs.end.Promises.{Commits, commitAnswer, RollsBack, rollbackAnswer}
+use Rattle.isolation.specs.history.History.{After, Status, unborn, opened, done, rolled, status, isOpen}
+use Rattle.isolation.specs.history.Records.{Map, look}
+use Rattle.isolation.specs.history.Store.{isSome}
+use Rattle.isolation.proofs.history.RunLaws.{run-open, begin-own}
+use Rattle.isolation.specs.records.Stored.{sightOf}
+use Rattle.isolation.proofs.records.OrderLaws.{order}
 use Rattle.isolation.specs.World.{World, Calls, begins, Gave, by-begin, meaning}
 use Rattle.isolation.proofs.GivenLaws.{began-trace}
 use Rattle.isolation.proofs.KeptLaws.{Sound, Kept, Ready}

@@ -9,30 +9,30 @@ use borrow.Author.Tests.{leb-true, not-false}
 use Rattle.keycode.specs.Tests.{pick}
 use Rattle.keycode.specs.Limits.{maxKey}
 use Rattle.keycode.proofs.Basics.{nope}
-use Rattle.keydir.specs.Place.{All}
-use Rattle.recovery.specs.declared.request.Changed.{Changed}
-use Rattle.recovery.specs.declared.request.Changed.the-variants as Change
-use Rattle.recovery.specs.Map.{Pair}
-use Rattle.recovery.specs.Recover.{mapOf}
-use Rattle.recovery.specs.Agree.{fit, Agrees}
-use Rattle.changes.specs.declared.append.Check.the-variants.{Fine, Refused}
-use Rattle.changes.specs.Append.{sizeAll, afterAll}
-use Rattle.handle.specs.declared.handle.Handle.{Handle}
-use Rattle.handle.specs.Handles.{soundHandle}
-use Rattle.txn.specs.Checks.{admitBy, openIn}
-use Rattle.mvcc_plain.specs.Promises.{plainPlan, SetsPlain}
-use Rattle.mvcc_plain.proofs.MapLaws.{plain-grow}
-use Rattle.mvcc_end.specs.Plans.{commitPlan, rollbackPlan}
-use Rattle.mvcc_end.specs.Promises.{Commits, RollsBack}
-use Rattle.history.specs.Records.{Map, plainRec, put as putRecord, Sorted}
-use Rattle.history.specs.Calls.{commitMap, rollbackMap}
-use Rattle.history.specs.Run.{usable, do-plain, do-commit, do-rollback}
-use Rattle.history.proofs.RunLaws.{run-sorted}
-use Rattle.records.specs.Stored.{pairsIn, keyOrder, Fine as FineRecord, sightOf}
-use Rattle.records.proofs.OrderLaws.{order}
-use Rattle.records.proofs.PlanLaws.{plain-pairs}
-use Rattle.records.proofs.EndLaws.{commit-pairs, rollback-pairs, commit-none, rollback-none}
-use Rattle.records.proofs.FineLaws.{fine-plain, fine-commit, fine-rollback}
+use Rattle.bitcask.specs.keydir.Place.{All}
+use Rattle.bitcask.specs.declared.request.Changed.{Changed}
+use Rattle.bitcask.specs.declared.request.Changed.the-variants as Change
+use Rattle.bitcask.specs.recovery.Map.{Pair}
+use Rattle.bitcask.specs.recovery.Recover.{mapOf}
+use Rattle.bitcask.specs.recovery.Agree.{fit, Agrees}
+use Rattle.bitcask.specs.declared.append.Check.the-variants.{Fine, Refused}
+use Rattle.bitcask.specs.change.Append.{sizeAll, afterAll}
+use Rattle.mvcc.specs.declared.handle.Handle.{Handle}
+use Rattle.mvcc.specs.handle.Handles.{soundHandle}
+use Rattle.mvcc.specs.request.Checks.{admitBy, openIn}
+use Rattle.mvcc.specs.unversioned.Promises.{plainPlan, SetsPlain}
+use Rattle.mvcc.proofs.unversioned.MapLaws.{plain-grow}
+use Rattle.mvcc.specs.end.Plans.{commitPlan, rollbackPlan}
+use Rattle.mvcc.specs.end.Promises.{Commits, RollsBack}
+use Rattle.isolation.specs.history.Records.{Map, plainRec, put as putRecord, Sorted}
+use Rattle.isolation.specs.history.Calls.{commitMap, rollbackMap}
+use Rattle.isolation.specs.history.Run.{usable, do-plain, do-commit, do-rollback}
+use Rattle.isolation.proofs.history.RunLaws.{run-sorted}
+use Rattle.isolation.specs.records.Stored.{pairsIn, keyOrder, Fine as FineRecord, sightOf}
+use Rattle.isolation.proofs.records.OrderLaws.{order}
+use Rattle.isolation.proofs.records.PlanLaws.{plain-pairs}
+use Rattle.isolation.proofs.records.EndLaws.{commit-pairs, rollback-pairs, commit-none, rollback-none}
+use Rattle.isolation.proofs.records.FineLaws.{fine-plain, fine-commit, fine-rollback}
 use Rattle.isolation.specs.World.{World, Calls, setsPlain, commits, rollsBack, changedTo, Given, traceOf}
 use Rattle.isolation.proofs.GivenLaws.{given-trace}
 use Rattle.isolation.proofs.EndedLaws.{admits, commit-ended, rollback-ended}

@@ -11,37 +11,37 @@ use Rattle.keycode.specs.Limits.{maxLog}
 use Rattle.keycode.specs.Buffer.{put}
 use Rattle.keycode.proofs.Basics.{nope}
 use Rattle.keycode.proofs.BufferLaws.{put-none, put-put}
-use Rattle.entry.specs.Entry.{Entry, bytesOf, sizeOf}
-use Rattle.entry.proofs.EntryLaws.{length-bytes}
-use Rattle.keydir.specs.Slots.{slotWords}
-use Rattle.keydir.specs.Place.{countOf}
-use Rattle.recovery.specs.declared.request.Changed.{Changed}
-use Rattle.recovery.specs.declared.request.Changed.the-variants.{Done, Refused}
-use Rattle.recovery.specs.Map.{Pair}
-use Rattle.recovery.specs.Recover.{mapOf}
-use Rattle.recovery.specs.Agree.{Agrees}
-use Rattle.recovery.specs.Promises.{changedNumber, Opens}
-use Rattle.recovery.proofs.AgreeLaws.{agrees-sound, append-long, append-map, sound-fit}
-use Rattle.recovery.proofs.OpenLaws.{opened-says, open-long}
-use Rattle.recovery.proofs.GrowLaws.{Grown, grown-opened, grown-append, grown-opens}
-use Rattle.changes.specs.Append.{sizeAll, bytesAll, afterAll}
-use Rattle.compaction.specs.Promises.{Compacts}
-use Rattle.compaction.proofs.GrownLaws.{compacts-grown}
-use Rattle.handle.specs.Handles.{setOf}
-use Rattle.payloads.specs.Payloads.{setBytes}
-use Rattle.txn.specs.declared.begun.Begun.{Begun}
-use Rattle.txn.specs.Lists.{Sets, Dels, Fitting, fitting-more}
-use Rattle.txn.proofs.FitLaws.{sets-fit, dels-fit, map-fits}
-use Rattle.mvcc_begin.specs.Plan.{planOf}
-use Rattle.mvcc_begin.specs.Promises.{Begins}
-use Rattle.mvcc_begin.proofs.StartLaws.{plan-sets as begin-sets}
-use Rattle.lays.specs.Lays.{Leaves}
-use Rattle.mvcc_write.proofs.WriteLaws.{plan-sets}
-use Rattle.mvcc_plain.proofs.SetLaws.{plain-sets}
-use Rattle.lays.proofs.GrowLaws.{Grows}
-use Rattle.mvcc_write.proofs.MapLaws.{writes-grow}
-use Rattle.mvcc_plain.proofs.MapLaws.{plain-grow}
-use Rattle.mvcc_end.specs.Promises as End
+use Rattle.bitcask.specs.entry.Entry.{Entry, bytesOf, sizeOf}
+use Rattle.bitcask.proofs.entry.EntryLaws.{length-bytes}
+use Rattle.bitcask.specs.keydir.Slots.{slotWords}
+use Rattle.bitcask.specs.keydir.Place.{countOf}
+use Rattle.bitcask.specs.declared.request.Changed.{Changed}
+use Rattle.bitcask.specs.declared.request.Changed.the-variants.{Done, Refused}
+use Rattle.bitcask.specs.recovery.Map.{Pair}
+use Rattle.bitcask.specs.recovery.Recover.{mapOf}
+use Rattle.bitcask.specs.recovery.Agree.{Agrees}
+use Rattle.bitcask.specs.recovery.Promises.{changedNumber, Opens}
+use Rattle.bitcask.proofs.recovery.AgreeLaws.{agrees-sound, append-long, append-map, sound-fit}
+use Rattle.bitcask.proofs.recovery.OpenLaws.{opened-says, open-long}
+use Rattle.bitcask.proofs.recovery.GrowLaws.{Grown, grown-opened, grown-append, grown-opens}
+use Rattle.bitcask.specs.change.Append.{sizeAll, bytesAll, afterAll}
+use Rattle.bitcask.specs.compaction.Promises.{Compacts}
+use Rattle.bitcask.proofs.compaction.GrownLaws.{compacts-grown}
+use Rattle.mvcc.specs.handle.Handles.{setOf}
+use Rattle.mvcc.specs.payload.Payloads.{setBytes}
+use Rattle.mvcc.specs.declared.begun.Begun.{Begun}
+use Rattle.mvcc.specs.request.Lists.{Sets, Dels, Fitting, fitting-more}
+use Rattle.mvcc.proofs.request.FitLaws.{sets-fit, dels-fit, map-fits}
+use Rattle.mvcc.specs.start.Plan.{planOf}
+use Rattle.mvcc.specs.start.Promises.{Begins}
+use Rattle.mvcc.proofs.start.StartLaws.{plan-sets as begin-sets}
+use Rattle.mvcc.specs.append.Lays.{Leaves}
+use Rattle.mvcc.proofs.write.WriteLaws.{plan-sets}
+use Rattle.mvcc.proofs.unversioned.SetLaws.{plain-sets}
+use Rattle.mvcc.proofs.append.GrowLaws.{Grows}
+use Rattle.mvcc.proofs.write.MapLaws.{writes-grow}
+use Rattle.mvcc.proofs.unversioned.MapLaws.{plain-grow}
+use Rattle.mvcc.specs.end.Promises as End
 use Rattle.isolation.specs.World.{World, Call, Calls, usedBy, isDone, changedTo, compactedTo, Step, compacting, beginning, beginningReading, beginningAsOf, resuming, getting, setting, deleting, scanning, scanningPrefix, committing, rollingBack, gettingPlain, settingPlain, stating, counting, looking, stepping, Run, first, opened, called}
 use Rattle.isolation.proofs.EndedLaws.{Ended, commit-dels, rollback-dels, commit-ended, rollback-ended}
 use Rattle.isolation.proofs.KeptLaws.{Ready, refused-same, lenOf, compact-says}

@@ -9,32 +9,32 @@ use Rattle.keycode.specs.Order.{compareBytes}
 use Rattle.keycode.specs.Strings.{escapeBody}
 use Rattle.keycode.specs.declared.parts.Part.{Part}
 use Rattle.keycode.specs.declared.order.Order.the-variants.{Less}
-use Rattle.recovery.specs.Map.{Pair}
-use Rattle.recovery.specs.Recover.{mapOf}
-use Rattle.changes.specs.declared.append.Check.{Check}
-use Rattle.changes.specs.declared.append.Check.the-variants.{Fine}
+use Rattle.bitcask.specs.recovery.Map.{Pair}
+use Rattle.bitcask.specs.recovery.Recover.{mapOf}
+use Rattle.bitcask.specs.declared.append.Check.{Check}
+use Rattle.bitcask.specs.declared.append.Check.the-variants.{Fine}
 use Rattle.bitcask.specs.declared.answers.Bound.{Bound}
 use Rattle.bitcask.specs.declared.answers.Stepped.{Stepped}
 use Rattle.bitcask.specs.declared.answers.Stepped.the-variants as Step
-use Rattle.bitcask.specs.Promises.{steppedNumber}
-use Rattle.bitcask.specs.Ranks.{admitted}
-use Rattle.handle.specs.declared.handle.Handle.{Handle}
-use Rattle.txn.specs.Ranges.{pairsOf}
-use Rattle.txn.proofs.CheckLaws.{not-done}
-use Rattle.mvcc_scan.specs.Bounds.{keysFit, prefixFits}
-use Rattle.mvcc_scan.specs.Steps.{Given, stepPairs, stepNumber, Shows}
-use Rattle.mvcc_scan.specs.Promises.{keysBy, Scanning, Scans, ScansPrefix}
-use Rattle.mvcc_scan.proofs.ShowLaws.{scan-shows}
-use Rattle.history.specs.History.{Key, Bytes}
-use Rattle.history.specs.Records.{Map}
-use Rattle.history.specs.Calls.{shown, scanStep}
-use Rattle.history.specs.Run.{usable}
-use Rattle.history.proofs.StepLaws.{scan-step}
-use Rattle.history.proofs.RunLaws.{run-sorted}
-use Rattle.records.specs.Stored.{pairsIn, sightOf}
-use Rattle.records.specs.Scans.{givenOf, First, none-shows, first-shows, prefixPast}
-use Rattle.records.proofs.OrderLaws.{order}
-use Rattle.records.proofs.ScanLaws.{scan-pairs, prefix-pairs, step-first}
+use Rattle.bitcask.specs.read.Promises.{steppedNumber}
+use Rattle.bitcask.specs.read.Ranks.{admitted}
+use Rattle.mvcc.specs.declared.handle.Handle.{Handle}
+use Rattle.mvcc.specs.request.Ranges.{pairsOf}
+use Rattle.mvcc.proofs.request.CheckLaws.{not-done}
+use Rattle.mvcc.specs.scan.Bounds.{keysFit, prefixFits}
+use Rattle.mvcc.specs.scan.Steps.{Given, stepPairs, stepNumber, Shows}
+use Rattle.mvcc.specs.scan.Promises.{keysBy, Scanning, Scans, ScansPrefix}
+use Rattle.mvcc.proofs.scan.ShowLaws.{scan-shows}
+use Rattle.isolation.specs.history.History.{Key, Bytes}
+use Rattle.isolation.specs.history.Records.{Map}
+use Rattle.isolation.specs.history.Calls.{shown, scanStep}
+use Rattle.isolation.specs.history.Run.{usable}
+use Rattle.isolation.proofs.history.StepLaws.{scan-step}
+use Rattle.isolation.proofs.history.RunLaws.{run-sorted}
+use Rattle.isolation.specs.records.Stored.{pairsIn, sightOf}
+use Rattle.isolation.specs.records.Scans.{givenOf, First, none-shows, first-shows, prefixPast}
+use Rattle.isolation.proofs.records.OrderLaws.{order}
+use Rattle.isolation.proofs.records.ScanLaws.{scan-pairs, prefix-pairs, step-first}
 use Rattle.isolation.specs.World.{World, Calls}
 use Rattle.isolation.specs.Shown.{ShowsFirst, ends, gives}
 use Rattle.isolation.proofs.EndedLaws.{admits}

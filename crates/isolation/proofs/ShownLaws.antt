@@ -13,28 +13,28 @@ use Rattle.keycode.specs.Limits.{maxKey}
 use Rattle.keycode.specs.declared.refusal.Refusal.the-variants.{Absent, KeyTooLong}
 use Rattle.keycode.specs.declared.parts.Part.{Part}
 use Rattle.keycode.proofs.Basics.{nope}
-use Rattle.recovery.specs.Map.{Pair}
-use Rattle.recovery.specs.Recover.{recovered, mapOf}
-use Rattle.recovery.specs.Agree.{fit}
+use Rattle.bitcask.specs.recovery.Map.{Pair}
+use Rattle.bitcask.specs.recovery.Recover.{recovered, mapOf}
+use Rattle.bitcask.specs.recovery.Agree.{fit}
 use Rattle.bitcask.specs.declared.answers.Located.{Located}
 use Rattle.bitcask.specs.declared.answers.Located.the-variants as Got
-use Rattle.handle.specs.declared.handle.Handle.{Handle}
-use Rattle.handle.specs.Handles.{soundHandle}
-use Rattle.txn.specs.Ranges.{keep, pairsOf}
-use Rattle.txn.specs.Checks.{admitBy, openIn}
-use Rattle.seen.specs.declared.Seen.{Seen}
-use Rattle.seen.specs.declared.Seen.the-variants.{Hidden, Gone, Bad, Value}
-use Rattle.seen.specs.Seen.{lastSeen, locatedSeen, versionTest, valueFor}
-use Rattle.mvcc_read.specs.Promises.{checked, getAnswer, Gets}
-use Rattle.mvcc_read.proofs.ShowLaws.{get-shows, get-none, get-broken}
-use Rattle.history.specs.History.{Key, Bytes, isOpen}
-use Rattle.history.specs.Records.{Map, Sorted}
-use Rattle.history.specs.Calls.{shown}
-use Rattle.history.specs.Run.{usable}
-use Rattle.history.proofs.RunLaws.{run-sorted, run-open, get-writer, get-reader, get-asOf, get-asOf-0}
-use Rattle.records.specs.Stored.{keyOrder, sightOf}
-use Rattle.records.proofs.OrderLaws.{order}
-use Rattle.records.proofs.SeenLaws.{value-pairs}
+use Rattle.mvcc.specs.declared.handle.Handle.{Handle}
+use Rattle.mvcc.specs.handle.Handles.{soundHandle}
+use Rattle.mvcc.specs.request.Ranges.{keep, pairsOf}
+use Rattle.mvcc.specs.request.Checks.{admitBy, openIn}
+use Rattle.mvcc.specs.declared.version.Seen.{Seen}
+use Rattle.mvcc.specs.declared.version.Seen.the-variants.{Hidden, Gone, Bad, Value}
+use Rattle.mvcc.specs.version.Seen.{lastSeen, locatedSeen, versionTest, valueFor}
+use Rattle.mvcc.specs.read.Promises.{checked, getAnswer, Gets}
+use Rattle.mvcc.proofs.read.ShowLaws.{get-shows, get-none, get-broken}
+use Rattle.isolation.specs.history.History.{Key, Bytes, isOpen}
+use Rattle.isolation.specs.history.Records.{Map, Sorted}
+use Rattle.isolation.specs.history.Calls.{shown}
+use Rattle.isolation.specs.history.Run.{usable}
+use Rattle.isolation.proofs.history.RunLaws.{run-sorted, run-open, get-writer, get-reader, get-asOf, get-asOf-0}
+use Rattle.isolation.specs.records.Stored.{keyOrder, sightOf}
+use Rattle.isolation.proofs.records.OrderLaws.{order}
+use Rattle.isolation.proofs.records.SeenLaws.{value-pairs}
 use Rattle.isolation.specs.World.{World, Calls, Given, by-begin, by-reading, by-asOf}
 use Rattle.isolation.specs.Views.{Usable, Sees, writer, reader, asOf, asOfNone, Shows}
 use Rattle.isolation.proofs.GivenLaws.{began-trace, read-trace, as-of-trace}

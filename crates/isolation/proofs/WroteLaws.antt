@@ -17,40 +17,40 @@ use Rattle.keycode.specs.Refusals.{numberOf}
 use Rattle.keycode.specs.declared.refusal.Refusal.{Refusal}
 use Rattle.keycode.specs.declared.refusal.Refusal.the-variants.{Absent, ReadOnly, NotOpen, KeyTooLong, ValueTooLong, Conflict, LogFull, TableFull, TooManyOpen, NoSuchVersion, VersionsSpent, BadStore, BadRequest}
 use Rattle.keycode.proofs.Basics.{nope}
-use Rattle.keys.specs.Keys.{txnActive}
-use Rattle.recovery.specs.declared.request.Used.{Used}
-use Rattle.recovery.specs.declared.request.Changed.{Changed}
-use Rattle.recovery.specs.declared.request.Changed.the-variants as Change
-use Rattle.recovery.specs.Map.{Pair}
-use Rattle.recovery.specs.Recover.{mapOf}
-use Rattle.recovery.specs.Agree.{fit, Agrees}
-use Rattle.recovery.specs.Promises.{changedNumber}
-use Rattle.changes.specs.declared.append.Check.{Check}
-use Rattle.changes.specs.declared.append.Check.the-variants.{Fine, Refused}
-use Rattle.changes.specs.Append.{sizeAll, bytesAll, afterAll, appendAnswer}
-use Rattle.handle.specs.declared.handle.Handle.{Handle}
-use Rattle.handle.specs.Handles.{soundHandle}
-use Rattle.payloads.specs.Payloads.{valueBytes}
-use Rattle.txn.specs.Ranges.{pairsOf}
-use Rattle.txn.specs.Looks.{liveIn}
-use Rattle.txn.specs.Checks.{activeKey, openBy, orElse}
-use Rattle.lays.specs.Lays.{sizesBy}
-use Rattle.mvcc_write.specs.Writes.{allowBy, plan}
-use Rattle.conflicts.specs.Conflicts.{searchBy, searched}
-use Rattle.mvcc_write.specs.Promises.{Writes, writeAnswer}
-use Rattle.mvcc_write.proofs.MapLaws.{writes-grow}
-use Rattle.history.specs.History.{Key, Bytes, Sight}
-use Rattle.history.specs.Store.{isSome}
-use Rattle.history.specs.Records.{Map, look, Sorted}
-use Rattle.history.specs.Calls.{conflict, writeMap}
-use Rattle.history.specs.Run.{writeE, tooLong, writeNumber, do-write, do-noroom}
-use Rattle.history.specs.Run as H
-use Rattle.history.proofs.RunLaws.{run-sorted}
-use Rattle.records.specs.Stored.{keyOrder, sightOf}
-use Rattle.records.proofs.OrderLaws.{order}
-use Rattle.records.proofs.PlanLaws.{write-pairs}
-use Rattle.records.proofs.FineLaws.{fine-write}
-use Rattle.records.proofs.SearchLaws.{search-pairs}
+use Rattle.keycode.specs.key.Keys.{txnActive}
+use Rattle.bitcask.specs.declared.request.Used.{Used}
+use Rattle.bitcask.specs.declared.request.Changed.{Changed}
+use Rattle.bitcask.specs.declared.request.Changed.the-variants as Change
+use Rattle.bitcask.specs.recovery.Map.{Pair}
+use Rattle.bitcask.specs.recovery.Recover.{mapOf}
+use Rattle.bitcask.specs.recovery.Agree.{fit, Agrees}
+use Rattle.bitcask.specs.recovery.Promises.{changedNumber}
+use Rattle.bitcask.specs.declared.append.Check.{Check}
+use Rattle.bitcask.specs.declared.append.Check.the-variants.{Fine, Refused}
+use Rattle.bitcask.specs.change.Append.{sizeAll, bytesAll, afterAll, appendAnswer}
+use Rattle.mvcc.specs.declared.handle.Handle.{Handle}
+use Rattle.mvcc.specs.handle.Handles.{soundHandle}
+use Rattle.mvcc.specs.payload.Payloads.{valueBytes}
+use Rattle.mvcc.specs.request.Ranges.{pairsOf}
+use Rattle.mvcc.specs.request.Looks.{liveIn}
+use Rattle.mvcc.specs.request.Checks.{activeKey, openBy, orElse}
+use Rattle.mvcc.specs.append.Lays.{sizesBy}
+use Rattle.mvcc.specs.write.Writes.{allowBy, plan}
+use Rattle.mvcc.specs.conflict.Conflicts.{searchBy, searched}
+use Rattle.mvcc.specs.write.Promises.{Writes, writeAnswer}
+use Rattle.mvcc.proofs.write.MapLaws.{writes-grow}
+use Rattle.isolation.specs.history.History.{Key, Bytes, Sight}
+use Rattle.isolation.specs.history.Store.{isSome}
+use Rattle.isolation.specs.history.Records.{Map, look, Sorted}
+use Rattle.isolation.specs.history.Calls.{conflict, writeMap}
+use Rattle.isolation.specs.history.Run.{writeE, tooLong, writeNumber, do-write, do-noroom}
+use Rattle.isolation.specs.history.Run as H
+use Rattle.isolation.proofs.history.RunLaws.{run-sorted}
+use Rattle.isolation.specs.records.Stored.{keyOrder, sightOf}
+use Rattle.isolation.proofs.records.OrderLaws.{order}
+use Rattle.isolation.proofs.records.PlanLaws.{write-pairs}
+use Rattle.isolation.proofs.records.FineLaws.{fine-write}
+use Rattle.isolation.proofs.records.SearchLaws.{search-pairs}
 use Rattle.isolation.specs.World.{World, Call, Calls, changedTo, Given, entryOf, traceOf}
 use Rattle.isolation.specs.Views.{sizeIn}
 use Rattle.isolation.proofs.GivenLaws.{given-trace}

@@ -10,9 +10,9 @@ use Rattle.keycode.specs.declared.parts.Part.{Part}
 use Rattle.keycode.specs.declared.order.Order.the-variants.{Less}
 use Rattle.bitcask.specs.declared.answers.Stepped.{Stepped}
 use Rattle.bitcask.specs.declared.answers.Stepped.the-variants as Step
-use Rattle.bitcask.specs.Promises.{steppedNumber}
-use Rattle.walks.specs.Walks.{partOf}
-use Rattle.history.specs.History.{Key, Bytes}
+use Rattle.bitcask.specs.read.Promises.{steppedNumber}
+use Rattle.mvcc.specs.walk.Walks.{partOf}
+use Rattle.isolation.specs.history.History.{Key, Bytes}
 
 -- f says what each key shows: the answer is 1 where no key that passes shows a value, and else the places of the first that does, its
 -- bytes escaped, and of its value

@@ -9,15 +9,15 @@ use mathlib.Core.List.{List, _∷_}
 use lib.ListN.{length, take, drop}
 use Rattle.keycode.specs.declared.refusal.Refusal.the-variants.{Absent, Conflict}
 use Rattle.keycode.specs.declared.parts.Part.{Part}
-use Rattle.recovery.specs.declared.request.Changed.{Changed}
-use Rattle.recovery.specs.declared.request.Changed.the-variants as Change
+use Rattle.bitcask.specs.declared.request.Changed.{Changed}
+use Rattle.bitcask.specs.declared.request.Changed.the-variants as Change
 use Rattle.bitcask.specs.declared.answers.Located.{Located}
 use Rattle.bitcask.specs.declared.answers.Located.the-variants as Got
-use Rattle.handle.specs.declared.handle.Handle.{Handle}
-use Rattle.handle.specs.Handles.{rising}
-use Rattle.txn.specs.declared.begun.Begun.{Begun}
-use Rattle.mvcc_view.specs.declared.status.Versions.{Versions}
-use Rattle.history.specs.History.{Key, Bytes, After, Clash, unborn, opened, status, isIn, isOpen, lastWrite, over, laid, past}
+use Rattle.mvcc.specs.declared.handle.Handle.{Handle}
+use Rattle.mvcc.specs.handle.Handles.{rising}
+use Rattle.mvcc.specs.declared.begun.Begun.{Begun}
+use Rattle.mvcc.specs.declared.report.Versions.{Versions}
+use Rattle.isolation.specs.history.History.{Key, Bytes, After, Clash, unborn, opened, status, isIn, isOpen, lastWrite, over, laid, past}
 use Rattle.isolation.specs.World.{begins, beginsReading, beginsAsOf, Calls, Gave, meaning}
 
 -- the handle may be used after the calls T: it is read-only, or its transaction is open

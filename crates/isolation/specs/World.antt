@@ -7,30 +7,30 @@ use mathlib.Core.Bool.{Bool, true, false}
 use mathlib.Core.Option.{Option, none, some}
 use mathlib.Core.List.{List, [], _∷_}
 use lib.ListN.{length}
-use Rattle.recovery.specs.declared.request.Changed.{Changed}
-use Rattle.recovery.specs.declared.request.Changed.the-variants.{Done, Refused}
-use Rattle.recovery.specs.Promises.{changedNumber, Opens}
+use Rattle.bitcask.specs.declared.request.Changed.{Changed}
+use Rattle.bitcask.specs.declared.request.Changed.the-variants.{Done, Refused}
+use Rattle.bitcask.specs.recovery.Promises.{changedNumber, Opens}
 use Rattle.bitcask.specs.declared.answers.Bound.{Bound}
 use Rattle.bitcask.specs.declared.answers.Located.{Located}
 use Rattle.bitcask.specs.declared.answers.Stepped.{Stepped}
-use Rattle.bitcask.specs.Promises.{Gets as Looks, Steps}
-use Rattle.compaction.specs.declared.status.Counted.{Counted}
-use Rattle.compaction.specs.Promises.{Compacts, Counting}
-use Rattle.handle.specs.declared.handle.Handle.{Handle}
-use Rattle.payloads.specs.Payloads.{valueBytes}
-use Rattle.txn.specs.declared.begun.Begun.{Begun}
-use Rattle.mvcc_view.specs.declared.status.Stated.{Stated}
-use Rattle.mvcc_begin.specs.Promises.{Begins}
-use Rattle.mvcc_view.specs.Promises.{BeginsReading, States}
-use Rattle.mvcc_past.specs.Promises.{BeginsAsOf}
-use Rattle.mvcc_read.specs.Promises.{Gets, Resumes}
-use Rattle.mvcc_plain.specs.Promises.{GetsUnversioned, SetsPlain}
-use Rattle.mvcc_write.specs.Promises.{Writes}
-use Rattle.mvcc_scan.specs.Promises.{Scans, ScansPrefix}
-use Rattle.mvcc_end.specs.Promises.{Commits, RollsBack}
-use Rattle.history.specs.History.{History, After}
-use Rattle.history.specs.Run.{Entry, beginE, readE, asOfE, writeE, commitE, rollbackE, otherE, Trace, events}
-use Rattle.records.specs.Stored.{sightOf}
+use Rattle.bitcask.specs.read.Promises.{Gets as Looks, Steps}
+use Rattle.bitcask.specs.declared.report.Counted.{Counted}
+use Rattle.bitcask.specs.compaction.Promises.{Compacts, Counting}
+use Rattle.mvcc.specs.declared.handle.Handle.{Handle}
+use Rattle.mvcc.specs.payload.Payloads.{valueBytes}
+use Rattle.mvcc.specs.declared.begun.Begun.{Begun}
+use Rattle.mvcc.specs.declared.report.Stated.{Stated}
+use Rattle.mvcc.specs.start.Promises.{Begins}
+use Rattle.mvcc.specs.read_only.Promises.{BeginsReading, States}
+use Rattle.mvcc.specs.as_of.Promises.{BeginsAsOf}
+use Rattle.mvcc.specs.read.Promises.{Gets, Resumes}
+use Rattle.mvcc.specs.unversioned.Promises.{GetsUnversioned, SetsPlain}
+use Rattle.mvcc.specs.write.Promises.{Writes}
+use Rattle.mvcc.specs.scan.Promises.{Scans, ScansPrefix}
+use Rattle.mvcc.specs.end.Promises.{Commits, RollsBack}
+use Rattle.isolation.specs.history.History.{History, After}
+use Rattle.isolation.specs.history.Run.{Entry, beginE, readE, asOfE, writeE, commitE, rollbackE, otherE, Trace, events}
+use Rattle.isolation.specs.records.Stored.{sightOf}
 
 pub record World : Type 0 where
   pub log : List ℕ

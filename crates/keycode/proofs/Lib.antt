@@ -1,4 +1,4 @@
--- The laws of the key layer; the crates above cite them.
+-- The laws of the key layer; what stands above cites them.
 pub mod Basics
 pub mod OrderLaws
 pub mod NumberLaws

@@ -8,3 +8,6 @@ pub mod Buffer
 pub mod Strings
 pub mod Prefix
 pub mod Promises
+pub mod key
+pub mod encode
+pub mod code

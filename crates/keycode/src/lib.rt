@@ -1,5 +1,9 @@
-// The bytes of keys: their order, big-endian numbers, escaped strings and prefix ranges. It is toydb's encoding/keycode.rs, over lent
-// buffers. The limits and the refusals of all layers live here too.
+// The bytes of keys: their order, big-endian numbers, escaped strings and prefix ranges, and the six keys of the store, encoded and
+// decoded. It is toydb's encoding/keycode.rs and the Key of its storage/mvcc.rs, over lent buffers. The limits and the refusals of all
+// layers live here too.
+pub mod code;
+pub mod encode;
+pub mod key;
 pub mod limits;
 pub mod number;
 pub mod order;
@@ -8,6 +12,24 @@ pub mod prefix;
 pub mod refusal;
 pub mod strings;
 
+pub use code::Code;
+pub use code::active_code;
+pub use code::next_version_code;
+pub use code::prefix_code;
+pub use code::snapshot_code;
+pub use code::unversioned_code;
+pub use code::version_code;
+pub use code::write_code;
+pub use encode::encode_next_version;
+pub use encode::encode_txn_active;
+pub use encode::encode_txn_active_snapshot;
+pub use encode::encode_txn_write;
+pub use encode::encode_unversioned;
+pub use encode::encode_version;
+pub use encode::encode_version_prefix;
+pub use key::Decoded;
+pub use key::Key;
+pub use key::decoding::decode;
 pub use order::Order;
 pub use order::compare;
 pub use parts::Part;

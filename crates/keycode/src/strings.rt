@@ -49,7 +49,7 @@ fn escaped_byte_len(b: u8) -> usize
 }
 
 // How many bytes a string is, escaped with no end.
-pub fn escaped_len(key: &[u8]) -> usize
+pub(crate) fn escaped_len(key: &[u8]) -> usize
     requires { ⌜ length (now key) ≤ maxKey ⌝ }
     ensures { λ r. ⌜ r ≡ length (escapeBody (now (key .entry))) ⌝ }
 {
@@ -77,7 +77,7 @@ fn put_escaped(b: u8, out: &mut [u8], at: usize) -> usize
 }
 
 // Writes a string, escaped with no end, and returns the index after it.
-pub fn escape_body_into(key: &[u8], out: &mut [u8], at: usize) -> usize
+pub(crate) fn escape_body_into(key: &[u8], out: &mut [u8], at: usize) -> usize
     requires { ⌜ at + length (escapeBody (now key)) ≤ length (now out) ⌝ }
     ensures { λ r. ⌜ (r ≡ at + length (escapeBody (now (key .entry)))) × (now (out .exit) ≡ put (now (out .entry)) at (escapeBody (now (key .entry)))) ⌝ }
 {
@@ -91,7 +91,7 @@ pub fn escape_body_into(key: &[u8], out: &mut [u8], at: usize) -> usize
 }
 
 // Writes a string, escaped and ended, and returns the index after it.
-pub fn escape_into(key: &[u8], out: &mut [u8], at: usize) -> usize
+pub(crate) fn escape_into(key: &[u8], out: &mut [u8], at: usize) -> usize
     requires { ⌜ at + length (escape (now key)) ≤ length (now out) ⌝ }
     ensures { λ r. ⌜ (r ≡ at + length (escape (now (key .entry)))) × (now (out .exit) ≡ put (now (out .entry)) at (escape (now (key .entry)))) ⌝ }
 {
@@ -138,7 +138,7 @@ fn step_at(s: &[u8], i: usize) -> Step
 }
 
 // Where the string whose escaped bytes start at index at ends, if it is within the limit.
-pub fn scan(s: &[u8], at: usize) -> Scanned
+pub(crate) fn scan(s: &[u8], at: usize) -> Scanned
     requires { ⌜ at ≤ length (now s) ⌝ }
     ensures { λ r. ⌜ r ≡ scanned maxKey at (drop at (now (s .entry))) ⌝ }
 {

@@ -4,12 +4,12 @@ use Rattle.keycode.specs.Number.{be, num, numFrom}
 use Rattle.keycode.specs.Order.{compareNat, compareBytes}
 use Rattle.keycode.specs.Strings.{escape, escapeBody, escapeByte, scanned}
 use Rattle.keycode.specs.Prefix.{prefixEnd, inFront}
-use Rattle.entry.specs.Length.{signedOf, lenOf, lengthOf}
-use Rattle.entry.specs.Reading.{wordAt, headAt, entryAt}
-use Rattle.keydir.specs.Slots.{insertAt, removeAt, keyOf, valueOf}
-use Rattle.keydir.specs.Place.{placeIn}
-use Rattle.recovery.specs.Recover.{itemsOf, items, ends, step, fold, recovered, view, mapOf}
-use Rattle.handle.specs.Handles.{memb, setOf, sees, handleOf}
+use Rattle.bitcask.specs.entry.Length.{signedOf, lenOf, lengthOf}
+use Rattle.bitcask.specs.entry.Reading.{wordAt, headAt, entryAt}
+use Rattle.bitcask.specs.keydir.Slots.{insertAt, removeAt, keyOf, valueOf}
+use Rattle.bitcask.specs.keydir.Place.{placeIn}
+use Rattle.bitcask.specs.recovery.Recover.{itemsOf, items, ends, step, fold, recovered, view, mapOf}
+use Rattle.mvcc.specs.handle.Handles.{memb, setOf, sees, handleOf}
 use Rattle.readings.specs.Bench.{p6Log, p8Tail, p9Log, Bench}
 
 pub bench : Bench

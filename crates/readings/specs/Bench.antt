@@ -10,12 +10,12 @@ use Rattle.keycode.specs.Prefix.{prefixEnd}
 use Rattle.keycode.specs.declared.strings.Reason.the-variants.{BadEscape}
 use Rattle.keycode.specs.declared.strings.Scanned.the-variants.{Broken}
 use Rattle.keycode.specs.declared.prefix.End.the-variants.{Unbounded, Raised}
-use Rattle.keys.specs.Keys.{encode, version}
-use Rattle.entry.specs.Reading.{entryAt}
-use Rattle.entry.specs.declared.read.Read.the-variants.{Del}
-use Rattle.recovery.specs.Map.{Pair}
-use Rattle.recovery.specs.Recover.{items, ends, mapOf}
-use Rattle.handle.specs.Handles.{sees, handleOf}
+use Rattle.keycode.specs.key.Keys.{encode, version}
+use Rattle.bitcask.specs.entry.Reading.{entryAt}
+use Rattle.bitcask.specs.declared.entry.read.Read.the-variants.{Del}
+use Rattle.bitcask.specs.recovery.Map.{Pair}
+use Rattle.bitcask.specs.recovery.Recover.{items, ends, mapOf}
+use Rattle.mvcc.specs.handle.Handles.{sees, handleOf}
 
 -- what recovery makes of a log all of which is used: the map, and the used length that is left
 abbrev pub Recovers : List ℕ → List Pair → ℕ → Type 0

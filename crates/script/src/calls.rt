@@ -1,38 +1,38 @@
 // Every call of the library, lent the store's bytes and words. What a call that only looks shows with a 0 goes out at once where the
 // caller is loud.
-use handle::Handle;
+use crate::spelling::asked::Asked;
+use crate::spelling::names::ABOVE;
+use crate::spelling::names::AS_OF;
+use crate::spelling::names::BEGIN;
+use crate::spelling::names::BELOW;
+use crate::spelling::names::COMMIT;
+use crate::spelling::names::COMPACT;
+use crate::spelling::names::CUT;
+use crate::spelling::names::DELETE;
+use crate::spelling::names::ENGINE_GET;
+use crate::spelling::names::ENGINE_STATUS;
+use crate::spelling::names::FROM;
+use crate::spelling::names::GET;
+use crate::spelling::names::GET_UNVERSIONED;
+use crate::spelling::names::LAY;
+use crate::spelling::names::RAW;
+use crate::spelling::names::READ_ONLY;
+use crate::spelling::names::ROLLBACK;
+use crate::spelling::names::SCAN;
+use crate::spelling::names::SCAN_PREFIX;
+use crate::spelling::names::SET;
+use crate::spelling::names::SET_UNVERSIONED;
+use crate::spelling::names::TO;
+use crate::spelling::show::counted;
+use crate::spelling::show::located;
+use crate::spelling::show::stated;
+use crate::spelling::show::stepped;
+use bitcask::Changed;
+use bitcask::Used;
 use keycode::Refusal;
 use mvcc::Begun;
 use mvcc::Bound;
-use recovery::Changed;
-use recovery::Used;
-use spelling::asked::Asked;
-use spelling::names::ABOVE;
-use spelling::names::AS_OF;
-use spelling::names::BEGIN;
-use spelling::names::BELOW;
-use spelling::names::COMMIT;
-use spelling::names::COMPACT;
-use spelling::names::CUT;
-use spelling::names::DELETE;
-use spelling::names::ENGINE_GET;
-use spelling::names::ENGINE_STATUS;
-use spelling::names::FROM;
-use spelling::names::GET;
-use spelling::names::GET_UNVERSIONED;
-use spelling::names::LAY;
-use spelling::names::RAW;
-use spelling::names::READ_ONLY;
-use spelling::names::ROLLBACK;
-use spelling::names::SCAN;
-use spelling::names::SCAN_PREFIX;
-use spelling::names::SET;
-use spelling::names::SET_UNVERSIONED;
-use spelling::names::TO;
-use spelling::show::counted;
-use spelling::show::located;
-use spelling::show::stated;
-use spelling::show::stepped;
+use mvcc::Handle;
 
 fn bound_of(name: usize) -> Bound {
     match name {
@@ -82,7 +82,7 @@ fn looked(
             loud,
             used,
         ),
-        ENGINE_GET => located(log, bitcask::read::get(log, used, table, key), loud, used),
+        ENGINE_GET => located(log, bitcask::get(log, used, table, key), loud, used),
         SCAN => stepped(
             log,
             mvcc::scan_step(log, used, table, h, lower, key, upper, value, after, last),
@@ -95,7 +95,7 @@ fn looked(
             loud,
             used,
         ),
-        ENGINE_STATUS => counted(compaction::status::status(log, used, table), loud, used),
+        ENGINE_STATUS => counted(bitcask::status(log, used, table), loud, used),
         _ => stated(mvcc::status(log, used, table), loud, used),
     }
 }
@@ -110,7 +110,7 @@ fn raw(log: &mut [u8], used: Used, bytes: &[u8]) -> Changed {
         return Changed::Refused(Refusal::LogFull);
     }
     Changed::Done(Used {
-        len: entry::copy_into(bytes, log, at),
+        len: bitcask::entry::copy_into(bytes, log, at),
     })
 }
 
@@ -130,16 +130,16 @@ fn written(
         SET_UNVERSIONED => mvcc::set_unversioned(log, used, table, key, value),
         COMMIT => mvcc::commit(log, used, table, h),
         ROLLBACK => mvcc::rollback(log, used, table, h),
-        LAY => changes::change::set(log, used, table, key, value),
-        CUT => changes::change::delete(log, used, table, key),
+        LAY => bitcask::set(log, used, table, key, value),
+        CUT => bitcask::delete(log, used, table, key),
         RAW => raw(log, used, key),
-        COMPACT => compaction::compact::compact(log, used, table, target),
-        _ => recovery::open(log, used, table),
+        COMPACT => bitcask::compact(log, used, table, target),
+        _ => bitcask::open(log, used, table),
     }
 }
 
 // A call that gives no handle gives back the one it was given.
-pub fn answered(
+pub(crate) fn answered(
     a: Asked,
     used: Used,
     h: Handle,

@@ -1,9 +1,9 @@
 // Standard input, line by line, into a lent buffer: a script may have any length, a line that of the buffer.
 use crate::lines::run_line;
+use crate::spelling::show::text;
+use crate::spelling::spell::byte_at;
 use crate::store::empty;
 use keycode::parts::clip;
-use spelling::show::text;
-use spelling::spell::byte_at;
 
 // Past every buffer.
 const ENDED: usize = usize::MAX;

@@ -4,6 +4,7 @@ mod input;
 mod lines;
 mod run;
 mod setting;
+mod spelling;
 mod store;
 
 pub use input::run_input;

@@ -1,22 +1,22 @@
 // A line of a script: what a line asks is done in turn, and the answer of its last call written behind the line.
 use crate::run::run;
 use crate::setting::set_up;
+use crate::spelling::asked::Asked;
+use crate::spelling::asked::ask;
+use crate::spelling::asked::nothing;
+use crate::spelling::names::BEGIN;
+use crate::spelling::names::COMPACT;
+use crate::spelling::names::ROOM;
+use crate::spelling::show::text;
+use crate::spelling::spell::byte_at;
+use crate::spelling::spell::find;
+use crate::spelling::spell::number_at;
+use crate::spelling::spell::plus;
+use crate::spelling::spell::spell;
 use crate::store::Store;
 use crate::store::empty;
 use keycode::Part;
 use keycode::parts::clip;
-use spelling::asked::Asked;
-use spelling::asked::ask;
-use spelling::asked::nothing;
-use spelling::names::BEGIN;
-use spelling::names::COMPACT;
-use spelling::names::ROOM;
-use spelling::show::text;
-use spelling::spell::byte_at;
-use spelling::spell::find;
-use spelling::spell::number_at;
-use spelling::spell::plus;
-use spelling::spell::spell;
 
 fn spell_part(line: &[u8], p: Part, out: &mut [u8]) -> usize {
     spell(clip(line, p.at, p.len), out)
@@ -97,7 +97,7 @@ fn run_given(line: &[u8]) -> Store {
 }
 
 // The store that the next line starts from.
-pub fn run_line(line: &[u8], given: Store) -> Store {
+pub(crate) fn run_line(line: &[u8], given: Store) -> Store {
     text(line);
     let n = line.len();
     match byte_at(line, 0) {

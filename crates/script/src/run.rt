@@ -1,21 +1,21 @@
 // A call on a store by value: what it leaves, its number, and its answer shown.
 use crate::calls::answered;
+use crate::spelling::asked::Asked;
+use crate::spelling::names::COMPACT;
+use crate::spelling::names::GET;
+use crate::spelling::names::SET;
+use crate::spelling::show;
+use crate::spelling::show::text;
 use crate::store::LOG_BYTES;
 use crate::store::Store;
 use crate::store::TABLE_WORDS;
 use crate::store::held;
 use crate::store::hold;
 use crate::store::same;
+use bitcask::Changed;
+use bitcask::Used;
 use keycode::number_of;
 use mvcc::Begun;
-use recovery::Changed;
-use recovery::Used;
-use spelling::asked::Asked;
-use spelling::names::COMPACT;
-use spelling::names::GET;
-use spelling::names::SET;
-use spelling::show;
-use spelling::show::text;
 
 fn numbered(s: Store, answer: Changed) -> Store {
     let mut t = s;
@@ -78,7 +78,14 @@ fn unlent(s: Store) -> Store {
     s
 }
 
-pub fn run(s: Store, a: Asked, version: u64, key: &[u8], value: &[u8], last: &[u8]) -> Store {
+pub(crate) fn run(
+    s: Store,
+    a: Asked,
+    version: u64,
+    key: &[u8],
+    value: &[u8],
+    last: &[u8],
+) -> Store {
     let mut log = s.log;
     let mut spare = s.spare;
     let mut table = s.table;

@@ -1,21 +1,21 @@
 // What a case sets before its call: the sizes that are lent, the used length, the hand and the handle in it.
+use crate::spelling::names::HAND;
+use crate::spelling::names::READER;
+use crate::spelling::names::ROOM;
+use crate::spelling::names::SHORT;
+use crate::spelling::names::SLOTS;
+use crate::spelling::names::TARGET;
+use crate::spelling::names::USED;
+use crate::spelling::names::WITH;
+use crate::spelling::names::WORDS;
+use crate::spelling::names::WRITER;
+use crate::spelling::spell::minus;
+use crate::spelling::spell::plus;
 use crate::store::Store;
 use crate::store::TABLE_WORDS;
 use crate::store::held;
 use crate::store::hold;
-use handle::Handle;
-use spelling::names::HAND;
-use spelling::names::READER;
-use spelling::names::ROOM;
-use spelling::names::SHORT;
-use spelling::names::SLOTS;
-use spelling::names::TARGET;
-use spelling::names::USED;
-use spelling::names::WITH;
-use spelling::names::WORDS;
-use spelling::names::WRITER;
-use spelling::spell::minus;
-use spelling::spell::plus;
+use mvcc::Handle;
 
 // The words of the slots in use.
 fn live(table: &[u32; TABLE_WORDS]) -> usize {
@@ -65,7 +65,7 @@ fn made(h: Handle, name: usize, n: u64) -> Handle {
 }
 
 // `n` is the word behind the name.
-pub fn set_up(s: Store, name: usize, n: u64) -> Store {
+pub(crate) fn set_up(s: Store, name: usize, n: u64) -> Store {
     if name <= HAND {
         return lend(s, name, n as usize);
     }

@@ -1,12 +1,12 @@
 // A store by value: a case runs from a store that other cases start from too.
-use handle::Handle;
-use spelling::names::is;
+use crate::spelling::names::is;
+use mvcc::Handle;
 
-pub const LOG_BYTES: usize = 16384;
+pub(crate) const LOG_BYTES: usize = 16384;
 
-pub const TABLE_WORDS: usize = 768;
+pub(crate) const TABLE_WORDS: usize = 768;
 
-pub const HANDS: usize = 16;
+pub(crate) const HANDS: usize = 16;
 
 // Of the arrays the first `size` bytes, the first `words` words and the first `room` bytes of the spare buffer are lent; a compaction
 // goes into the spare buffer. `number` is what the last call answered.
@@ -24,7 +24,7 @@ pub struct Store {
 }
 
 // Bytes past the used length mean nothing, so they are not zero.
-pub fn empty() -> Store {
+pub(crate) fn empty() -> Store {
     let log = [165u8; LOG_BYTES];
     let spare = [90u8; LOG_BYTES];
     let table = [0u32; TABLE_WORDS];
@@ -45,7 +45,7 @@ pub fn empty() -> Store {
 }
 
 // The handle in a hand, and the hands with another in it.
-pub fn held(s: Store) -> Handle {
+pub(crate) fn held(s: Store) -> Handle {
     let i = s.hand;
     if i < HANDS {
         let hands = s.hands;
@@ -54,7 +54,7 @@ pub fn held(s: Store) -> Handle {
     Handle::blank()
 }
 
-pub fn hold(s: Store, h: Handle) -> Store {
+pub(crate) fn hold(s: Store, h: Handle) -> Store {
     let i = s.hand;
     let mut t = s;
     if i < HANDS {
@@ -77,7 +77,7 @@ fn same_words(a: &[u32; TABLE_WORDS], b: &[u32; TABLE_WORDS]) -> bool {
 }
 
 // Whether log, spare buffer, table and used length are the same, the bytes and words that are not lent too.
-pub fn same(s: Store, t: Store) -> bool {
+pub(crate) fn same(s: Store, t: Store) -> bool {
     let a = s.log;
     let b = t.log;
     let c = s.spare;

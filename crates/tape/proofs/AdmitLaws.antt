@@ -7,9 +7,9 @@ use native.Mathlib.Omega.{arith}
 use lib.Dec.{leb}
 use borrow.Author.Tests.{leb-true, le-leb, lt-leb}
 use Rattle.keycode.specs.Tests.{pick}
-use Rattle.tape_record.specs.declared.request.Request.{Request}
-use Rattle.tape_record.specs.Requests.{fieldsOf, between, slotMost, modest, proper}
-use Rattle.tape_record.specs.Slots.{filled, slotFits}
+use Rattle.tape.specs.declared.format.request.Request.{Request}
+use Rattle.tape.specs.format.Requests.{fieldsOf, between, slotMost, modest, proper}
+use Rattle.tape.specs.format.Slots.{filled, slotFits}
 use Rattle.isolation.specs.World.{World}
 use Rattle.tape.specs.Turns.{Held, looking, writing, scanning, ending, admitted}
 

@@ -9,23 +9,23 @@ use lib.ListN.{length}
 use borrow.Author.Tests.{eq-eqb, ne-eqb}
 use Rattle.keycode.specs.Buffer.{put}
 use Rattle.keycode.specs.Limits.{maxOpen}
-use Rattle.recovery.specs.declared.request.Changed.{Changed}
-use Rattle.recovery.specs.Promises.{changedNumber}
+use Rattle.bitcask.specs.declared.request.Changed.{Changed}
+use Rattle.bitcask.specs.recovery.Promises.{changedNumber}
 use Rattle.bitcask.specs.declared.answers.Located.{Located}
-use Rattle.compaction.specs.declared.status.Counted.{Counted}
-use Rattle.compaction.specs.Promises.{Compacts, Counting}
-use Rattle.handle.specs.declared.handle.Handle.{Handle}
-use Rattle.payloads.specs.Payloads.{valueBytes}
-use Rattle.txn.specs.declared.begun.Begun.{Begun}
-use Rattle.mvcc_begin.specs.Promises.{Begins}
-use Rattle.mvcc_view.specs.Promises.{BeginsReading}
-use Rattle.mvcc_past.specs.Promises.{BeginsAsOf}
-use Rattle.mvcc_read.specs.Promises.{Gets}
-use Rattle.mvcc_write.specs.Promises.{Writes}
-use Rattle.mvcc_end.specs.Promises.{Commits, RollsBack}
+use Rattle.bitcask.specs.declared.report.Counted.{Counted}
+use Rattle.bitcask.specs.compaction.Promises.{Compacts, Counting}
+use Rattle.mvcc.specs.declared.handle.Handle.{Handle}
+use Rattle.mvcc.specs.payload.Payloads.{valueBytes}
+use Rattle.mvcc.specs.declared.begun.Begun.{Begun}
+use Rattle.mvcc.specs.start.Promises.{Begins}
+use Rattle.mvcc.specs.read_only.Promises.{BeginsReading}
+use Rattle.mvcc.specs.as_of.Promises.{BeginsAsOf}
+use Rattle.mvcc.specs.read.Promises.{Gets}
+use Rattle.mvcc.specs.write.Promises.{Writes}
+use Rattle.mvcc.specs.end.Promises.{Commits, RollsBack}
 use Rattle.isolation.specs.World.{World, usedBy, isDone, Step, beginning, beginningReading, beginningAsOf, getting, setting, deleting, committing, rollingBack, counting}
-use Rattle.tape_record.specs.declared.request.Request.{Request}
-use Rattle.tape_record.specs.Layout.{recordLen, plainly}
+use Rattle.tape.specs.declared.format.request.Request.{Request}
+use Rattle.tape.specs.format.Layout.{recordLen, plainly}
 use Rattle.tape.specs.Answers.{givenBytes, filledWith, gotBytes, emptiedBy, usedBytes, countBytes}
 use Rattle.tape.specs.Turns.{startCall, startUsed, writeCall, endCall, Started, started, Looked, looked, Written, written, Ended, ended, Tidied, tidied, Told, told, worldOf}
 use Rattle.tape.specs.Promises.{Lays}

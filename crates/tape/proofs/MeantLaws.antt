@@ -4,15 +4,15 @@ use mathlib.Core.Path.{_≡_, refl}
 use mathlib.Core.Option.{none, some}
 use mathlib.Core.List.{List}
 use lib.ListN.{length}
-use Rattle.payloads.specs.Payloads.{valueBytes}
-use Rattle.compaction.specs.Promises.{Counting}
-use Rattle.mvcc_begin.specs.Promises.{Begins}
-use Rattle.mvcc_view.specs.Promises.{BeginsReading}
-use Rattle.mvcc_past.specs.Promises.{BeginsAsOf}
-use Rattle.mvcc_read.specs.Promises.{Gets}
-use Rattle.mvcc_write.specs.Promises.{Writes}
-use Rattle.mvcc_scan.specs.Promises.{ScansPrefix}
-use Rattle.mvcc_end.specs.Promises.{Commits, RollsBack}
+use Rattle.mvcc.specs.payload.Payloads.{valueBytes}
+use Rattle.bitcask.specs.compaction.Promises.{Counting}
+use Rattle.mvcc.specs.start.Promises.{Begins}
+use Rattle.mvcc.specs.read_only.Promises.{BeginsReading}
+use Rattle.mvcc.specs.as_of.Promises.{BeginsAsOf}
+use Rattle.mvcc.specs.read.Promises.{Gets}
+use Rattle.mvcc.specs.write.Promises.{Writes}
+use Rattle.mvcc.specs.scan.Promises.{ScansPrefix}
+use Rattle.mvcc.specs.end.Promises.{Commits, RollsBack}
 use Rattle.isolation.specs.World.{World, Call, opens, compacts, begins, beginsReading, beginsAsOf, resumes, gets, sets, deletes, scans, scansPrefix, commits, rollsBack, getsPlain, setsPlain, states, counts, looks, steps, changedTo, Step, compacting, beginning, beginningReading, beginningAsOf, resuming, getting, setting, deleting, scanning, scanningPrefix, committing, rollingBack, gettingPlain, settingPlain, stating, counting, looking, stepping}
 
 -- the log and the table after a call that changes them

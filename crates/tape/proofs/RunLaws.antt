@@ -11,17 +11,17 @@ use lib.Dec.{eqb}
 use lib.ListN.{length}
 use Rattle.keycode.specs.Tests.{pick}
 use Rattle.keycode.specs.Limits.{maxOpen}
-use Rattle.recovery.specs.declared.request.Changed.{Changed}
-use Rattle.recovery.specs.declared.request.Changed.the-variants.{Done, Refused}
-use Rattle.recovery.specs.Promises.{changedNumber}
-use Rattle.handle.specs.declared.handle.Handle.{Handle}
-use Rattle.txn.specs.declared.begun.Begun.{Begun}
-use Rattle.history.specs.History.{After, now, later}
+use Rattle.bitcask.specs.declared.request.Changed.{Changed}
+use Rattle.bitcask.specs.declared.request.Changed.the-variants.{Done, Refused}
+use Rattle.bitcask.specs.recovery.Promises.{changedNumber}
+use Rattle.mvcc.specs.declared.handle.Handle.{Handle}
+use Rattle.mvcc.specs.declared.begun.Begun.{Begun}
+use Rattle.isolation.specs.history.History.{After, now, later}
 use Rattle.isolation.specs.World.{World, Call, Calls, begins, beginsReading, beginsAsOf, gets, sets, deletes, scansPrefix, commits, rollsBack, compacts, counts, Step, compacting, Given, by-begin, by-reading, by-asOf, handleIn, Fair, Run, called}
-use Rattle.tape_record.specs.declared.request.Request.{Request}
-use Rattle.tape_record.specs.Requests.{fieldsOf}
-use Rattle.tape_record.specs.Slots.{allWords, filled, handleAt, fill, empty}
-use Rattle.tape_record.proofs.SlotLaws.{slot-back, length-fill, length-empty, handle-fill-other, filled-fill-other, handle-empty-other, filled-empty-other, filled-empty}
+use Rattle.tape.specs.declared.format.request.Request.{Request}
+use Rattle.tape.specs.format.Requests.{fieldsOf}
+use Rattle.tape.specs.format.Slots.{allWords, filled, handleAt, fill, empty}
+use Rattle.tape.proofs.format.SlotLaws.{slot-back, length-fill, length-empty, handle-fill-other, filled-fill-other, handle-empty-other, filled-empty-other, filled-empty}
 use Rattle.tape.specs.Answers.{filledWith, emptiedBy}
 use Rattle.tape.specs.Turns.{startCall, writeCall, endCall, Started, started, Looked, looked, Written, written, Scanned, ends, goes, Ended, ended, Tidied, tidied, Told, told, Held, looking, writing, scanning, ending, Bench, swapped, starting, holding, tidying, telling, Turned, short, bad, good}
 use Rattle.tape.proofs.AdmitLaws.{slot-below, slot-filled, held-commands}

@@ -21,11 +21,11 @@ use Rattle.keycode.proofs.BufferLaws.{put-none, put-put}
 use Rattle.keycode.proofs.StringLaws.{plain-done}
 use Rattle.bitcask.specs.declared.answers.Stepped.{Stepped}
 use Rattle.bitcask.specs.declared.answers.Stepped.the-variants as Went
-use Rattle.handle.specs.declared.handle.Handle.{Handle}
-use Rattle.mvcc_scan.specs.Promises.{ScansPrefix}
+use Rattle.mvcc.specs.declared.handle.Handle.{Handle}
+use Rattle.mvcc.specs.scan.Promises.{ScansPrefix}
 use Rattle.isolation.specs.World.{World, scansPrefix, Step, scanningPrefix}
-use Rattle.tape_record.specs.Layout.{recordLen, keyRoom, valueRoom, laid, plainly}
-use Rattle.tape_record.proofs.LayoutLaws.{laid-long, plainly-long}
+use Rattle.tape.specs.format.Layout.{recordLen, keyRoom, valueRoom, laid, plainly}
+use Rattle.tape.proofs.format.LayoutLaws.{laid-long, plainly-long}
 use Rattle.tape.specs.declared.scan.Pace.{Pace}
 use Rattle.tape.specs.declared.scan.Pace.the-variants.{Pair, Over}
 use Rattle.tape.specs.Answers.{pair, last, pairIf, pairBy, endBytes, shown}

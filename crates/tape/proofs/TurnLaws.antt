@@ -9,13 +9,13 @@ use lib.ListN.{length, take, drop}
 use borrow.Author.Tests.{eq-eqb, ne-eqb, le-leb, lt-leb}
 use Rattle.keycode.specs.Buffer.{put}
 use Rattle.keycode.specs.declared.refusal.Refusal.the-variants.{BadRequest}
-use Rattle.recovery.specs.declared.request.Used.{Used}
-use Rattle.handle.specs.declared.handle.Handle.{Handle}
-use Rattle.tape_record.specs.declared.request.Request.{Request}
-use Rattle.tape_record.specs.Layout.{recordLen, keyAt, valueAt, plainly}
-use Rattle.tape_record.specs.Requests.{fieldsOf, keyIn, valueIn}
-use Rattle.tape_record.specs.Slots.{allWords, handleAt}
-use Rattle.tape_record.proofs.LayoutLaws.{plainly-long}
+use Rattle.bitcask.specs.declared.request.Used.{Used}
+use Rattle.mvcc.specs.declared.handle.Handle.{Handle}
+use Rattle.tape.specs.declared.format.request.Request.{Request}
+use Rattle.tape.specs.format.Layout.{recordLen, keyAt, valueAt, plainly}
+use Rattle.tape.specs.format.Requests.{fieldsOf, keyIn, valueIn}
+use Rattle.tape.specs.format.Slots.{allWords, handleAt}
+use Rattle.tape.proofs.format.LayoutLaws.{plainly-long}
 use Rattle.tape.specs.declared.state.Turn.{Turn}
 use Rattle.tape.specs.declared.state.Taken.the-variants as Took
 use Rattle.tape.specs.Turns.{Started, Looked, Written, Scanned, Ended, Tidied, Told, Held, looking, writing, scanning, ending, Bench, worldOf, benchOf, swapped, Carried, starting, holding, tidying, telling, admitted, Turned, short, bad, good}

@@ -8,15 +8,15 @@ use native.Mathlib.Omega.{arith}
 use lib.ListN.{length}
 use Rattle.keycode.specs.Buffer.{put}
 use Rattle.keycode.specs.Tests.{pick}
-use Rattle.recovery.specs.declared.request.Changed.{Changed}
-use Rattle.recovery.specs.Agree.{Agrees}
-use Rattle.recovery.specs.Promises.{changedNumber}
-use Rattle.compaction.proofs.CompactUnique.{compacts-unique}
-use Rattle.handle.specs.declared.handle.Handle.{Handle}
-use Rattle.txn.specs.declared.begun.Begun.{Begun}
+use Rattle.bitcask.specs.declared.request.Changed.{Changed}
+use Rattle.bitcask.specs.recovery.Agree.{Agrees}
+use Rattle.bitcask.specs.recovery.Promises.{changedNumber}
+use Rattle.bitcask.proofs.compaction.CompactUnique.{compacts-unique}
+use Rattle.mvcc.specs.declared.handle.Handle.{Handle}
+use Rattle.mvcc.specs.declared.begun.Begun.{Begun}
 use Rattle.isolation.specs.World.{World, usedBy, isDone}
-use Rattle.tape_record.specs.declared.request.Request.{Request}
-use Rattle.tape_record.specs.Layout.{laid, plainly}
+use Rattle.tape.specs.declared.format.request.Request.{Request}
+use Rattle.tape.specs.format.Layout.{laid, plainly}
 use Rattle.tape.specs.Answers.{givenBytes, filledWith, gotBytes, pair, last, shown, emptiedBy, usedBytes, countBytes}
 use Rattle.tape.specs.Turns.{Started, started, Looked, looked, Written, written, Scanned, ends, goes, Ended, ended, Tidied, tidied, Told, told, Held, looking, writing, scanning, ending, Bench, benchOf, inPlace, swapped, Carried, starting, holding, tidying, telling, Turned, short, bad, good}
 use Rattle.tape.specs.declared.state.Turn.{Turn}

@@ -5,22 +5,22 @@ use mathlib.Core.Bool.{Bool, true, false}
 use mathlib.Core.List.{List}
 use lib.Dec.{eqb}
 use Rattle.keycode.specs.Tests.{pick}
-use Rattle.recovery.specs.declared.request.Changed.{Changed}
-use Rattle.recovery.specs.Agree.{Agrees}
+use Rattle.bitcask.specs.declared.request.Changed.{Changed}
+use Rattle.bitcask.specs.recovery.Agree.{Agrees}
 use Rattle.bitcask.specs.declared.answers.Located.{Located}
 use Rattle.bitcask.specs.declared.answers.Stepped.{Stepped}
-use Rattle.compaction.specs.declared.status.Counted.{Counted}
-use Rattle.compaction.proofs.CompactUnique.{counting-unique}
-use Rattle.handle.specs.declared.handle.Handle.{Handle}
-use Rattle.txn.specs.declared.begun.Begun.{Begun}
-use Rattle.mvcc_view.proofs.Unique.{reading-unique}
-use Rattle.mvcc_past.proofs.Unique.{as-of-unique}
-use Rattle.mvcc_begin.proofs.Unique.{begins-answer, begins-log, begins-table}
-use Rattle.mvcc_read.proofs.Unique.{gets-unique}
-use Rattle.mvcc_write.proofs.Unique.{writes-answer, writes-log, writes-table}
-use Rattle.mvcc_scan.proofs.Unique.{scans-unique}
-use Rattle.mvcc_end.proofs.Unique.{commit-unique}
-use Rattle.mvcc_end.proofs.RollbackUnique.{rollback-unique}
+use Rattle.bitcask.specs.declared.report.Counted.{Counted}
+use Rattle.bitcask.proofs.compaction.CompactUnique.{counting-unique}
+use Rattle.mvcc.specs.declared.handle.Handle.{Handle}
+use Rattle.mvcc.specs.declared.begun.Begun.{Begun}
+use Rattle.mvcc.proofs.read_only.Unique.{reading-unique}
+use Rattle.mvcc.proofs.as_of.Unique.{as-of-unique}
+use Rattle.mvcc.proofs.start.Unique.{begins-answer, begins-log, begins-table}
+use Rattle.mvcc.proofs.read.Unique.{gets-unique}
+use Rattle.mvcc.proofs.write.Unique.{writes-answer, writes-log, writes-table}
+use Rattle.mvcc.proofs.scan.Unique.{scans-unique}
+use Rattle.mvcc.proofs.end.Unique.{commit-unique}
+use Rattle.mvcc.proofs.end.RollbackUnique.{rollback-unique}
 use Rattle.isolation.specs.World.{World, begins, beginsReading, beginsAsOf, gets, sets, deletes, scansPrefix, commits, rollsBack, counts, changedTo, Step}
 use Rattle.tape.specs.Turns.{startCall, writeCall, endCall}
 use Rattle.tape.proofs.MeantLaws.{Means, means}

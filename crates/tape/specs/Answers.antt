@@ -10,17 +10,17 @@ use Rattle.keycode.specs.Strings.{unescaped, plainLength}
 use Rattle.keycode.specs.declared.parts.Part.{Part}
 use Rattle.keycode.specs.declared.refusal.Length.{Length}
 use Rattle.keycode.specs.declared.refusal.Length.the-variants as Long
-use Rattle.recovery.specs.declared.request.Changed.{Changed}
-use Rattle.recovery.specs.declared.request.Changed.the-variants.{Done, Refused}
+use Rattle.bitcask.specs.declared.request.Changed.{Changed}
+use Rattle.bitcask.specs.declared.request.Changed.the-variants.{Done, Refused}
 use Rattle.bitcask.specs.declared.answers.Located.{Located}
 use Rattle.bitcask.specs.declared.answers.Located.the-variants as Got
 use Rattle.bitcask.specs.declared.answers.Stepped.{Stepped}
 use Rattle.bitcask.specs.declared.answers.Stepped.the-variants as Step
-use Rattle.compaction.specs.declared.status.Counted.{Counted}
-use Rattle.compaction.specs.declared.status.Counted.the-variants as Count
-use Rattle.handle.specs.declared.handle.Handle.{Handle}
-use Rattle.tape_record.specs.Layout.{valueRoom, laid, plainly}
-use Rattle.tape_record.specs.Slots.{fill, empty}
+use Rattle.bitcask.specs.declared.report.Counted.{Counted}
+use Rattle.bitcask.specs.declared.report.Counted.the-variants as Count
+use Rattle.mvcc.specs.declared.handle.Handle.{Handle}
+use Rattle.tape.specs.format.Layout.{valueRoom, laid, plainly}
+use Rattle.tape.specs.format.Slots.{fill, empty}
 
 -- the bytes at a place of the log
 abbrev pub bytesAt : List ℕ → Part → List ℕ

@@ -9,8 +9,8 @@ use lib.Dec.{eqb, leb}
 use Rattle.keycode.specs.Tests.{pick}
 use Rattle.keycode.specs.Buffer.{put}
 use Rattle.keycode.specs.declared.refusal.Refusal.the-variants.{BadRequest}
-use Rattle.tape_record.specs.Layout.{recordLen}
-use Rattle.tape_record.specs.Slots.{allWords}
+use Rattle.tape.specs.format.Layout.{recordLen}
+use Rattle.tape.specs.format.Slots.{allWords}
 use Rattle.tape.specs.declared.state.Taken.{Taken}
 use Rattle.tape.specs.declared.state.Taken.the-variants as Took
 use Rattle.tape.specs.Turns.{benchOf, Turned}

@@ -6,9 +6,9 @@ use mathlib.Core.List.{List}
 use lib.ListN.{length, take}
 use Rattle.keycode.specs.Buffer.{put}
 use Rattle.bitcask.specs.declared.answers.Stepped.{Stepped}
-use Rattle.handle.specs.declared.handle.Handle.{Handle}
+use Rattle.mvcc.specs.declared.handle.Handle.{Handle}
 use Rattle.isolation.specs.World.{World, scansPrefix, Step}
-use Rattle.tape_record.specs.Layout.{recordLen, keyRoom, laid}
+use Rattle.tape.specs.format.Layout.{recordLen, keyRoom, laid}
 use Rattle.tape.specs.declared.scan.Pace.{Pace}
 use Rattle.tape.specs.declared.scan.Pace.the-variants as Paces
 use Rattle.tape.specs.Answers.{Shown, pair, last, shown}

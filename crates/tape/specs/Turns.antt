@@ -8,19 +8,19 @@ use lib.ListN.{length}
 use lib.Dec.{eqb}
 use Rattle.keycode.specs.Tests.{pick}
 use Rattle.keycode.specs.Limits.{maxOpen}
-use Rattle.recovery.specs.declared.request.Changed.{Changed}
-use Rattle.recovery.specs.Promises.{changedNumber}
+use Rattle.bitcask.specs.declared.request.Changed.{Changed}
+use Rattle.bitcask.specs.recovery.Promises.{changedNumber}
 use Rattle.bitcask.specs.declared.answers.Located.{Located}
 use Rattle.bitcask.specs.declared.answers.Stepped.{Stepped}
-use Rattle.compaction.specs.declared.status.Counted.{Counted}
-use Rattle.compaction.specs.Promises.{Compacts}
-use Rattle.handle.specs.declared.handle.Handle.{Handle}
-use Rattle.txn.specs.declared.begun.Begun.{Begun}
+use Rattle.bitcask.specs.declared.report.Counted.{Counted}
+use Rattle.bitcask.specs.compaction.Promises.{Compacts}
+use Rattle.mvcc.specs.declared.handle.Handle.{Handle}
+use Rattle.mvcc.specs.declared.begun.Begun.{Begun}
 use Rattle.isolation.specs.World.{World, Call, begins, beginsReading, beginsAsOf, gets, sets, deletes, scansPrefix, commits, rollsBack, counts, Step, usedBy, isDone}
-use Rattle.tape_record.specs.declared.request.Request.{Request}
-use Rattle.tape_record.specs.Layout.{recordLen, laid, plainly}
-use Rattle.tape_record.specs.Requests.{fieldsOf, keyIn, valueIn, proper}
-use Rattle.tape_record.specs.Slots.{filled, slotFits, handleAt}
+use Rattle.tape.specs.declared.format.request.Request.{Request}
+use Rattle.tape.specs.format.Layout.{recordLen, laid, plainly}
+use Rattle.tape.specs.format.Requests.{fieldsOf, keyIn, valueIn, proper}
+use Rattle.tape.specs.format.Slots.{filled, slotFits, handleAt}
 use Rattle.tape.specs.Answers.{givenBytes, filledWith, gotBytes, pair, last, shown, emptiedBy, usedBytes, countBytes}
 
 -- ---- the calls that a command makes

@@ -1,16 +1,16 @@
 // Answer records of what the calls answered, laid at the front of the lent buffer, and the handle slots after them.
-use bitcask::answers::Located;
-use bitcask::read::part;
-use compaction::status::Counted;
-use handle::Handle;
+use crate::format::layout::VALUE_ROOM;
+use crate::format::layout::put_plain;
+use crate::format::layout::put_record;
+use crate::format::slots::empty;
+use crate::format::slots::fill;
+use bitcask::Changed;
+use bitcask::Counted;
+use bitcask::Located;
+use bitcask::part;
 use keycode::Refusal;
-use keycode::refusal::number_of;
-use recovery::Changed;
-use tape_record::layout::VALUE_ROOM;
-use tape_record::layout::put_plain;
-use tape_record::layout::put_record;
-use tape_record::slots::empty;
-use tape_record::slots::fill;
+use keycode::number_of;
+use mvcc::Handle;
 ghost use mathlib.Core.Path.{_≡_};
 ghost use mathlib.Core.List.{[]};
 ghost use Prim.Native.Nat.{_+_, _≤_, _<_};
@@ -18,13 +18,13 @@ ghost use lib.ListN.{length};
 ghost use Rattle.keycode.specs.Refusals.{numberOf};
 ghost use Rattle.keycode.specs.Limits.{maxOpen};
 ghost use Rattle.keycode.specs.Buffer.{put};
-ghost use Rattle.recovery.specs.Promises.{changedNumber};
-ghost use Rattle.tape_record.specs.Layout.{recordLen, laid, plainly};
-ghost use Rattle.tape_record.specs.Slots.{allWords};
+ghost use Rattle.bitcask.specs.recovery.Promises.{changedNumber};
+ghost use Rattle.tape.specs.format.Layout.{recordLen, laid, plainly};
+ghost use Rattle.tape.specs.format.Slots.{allWords};
 ghost use Rattle.tape.specs.Answers.{givenBytes, filledWith, valueBytes, gotBytes, emptiedBy, usedBytes, countBytes};
 
 // Done, with a number.
-pub fn put_word(out: &mut [u8], at: usize, command: u8, w: u64)
+pub(crate) fn put_word(out: &mut [u8], at: usize, command: u8, w: u64)
     requires { ⌜ at + recordLen ≤ length (now out) ⌝ }
     ensures { λ _. ⌜ now (out .exit) ≡ put (now (out .entry)) at (laid 0 command w [] []) ⌝ }
 {
@@ -34,7 +34,7 @@ pub fn put_word(out: &mut [u8], at: usize, command: u8, w: u64)
 }
 
 // A refusal.
-pub fn put_refusal(out: &mut [u8], at: usize, r: Refusal, command: u8)
+pub(crate) fn put_refusal(out: &mut [u8], at: usize, r: Refusal, command: u8)
     requires { ⌜ at + recordLen ≤ length (now out) ⌝ }
     ensures { λ _. ⌜ now (out .exit) ≡ put (now (out .entry)) at (plainly (numberOf r) command) ⌝ }
 {
@@ -43,7 +43,7 @@ pub fn put_refusal(out: &mut [u8], at: usize, r: Refusal, command: u8)
 }
 
 // The answer of a begin.
-pub fn answer_given(out: &mut [u8], command: u8, answer: Changed, version: u64)
+pub(crate) fn answer_given(out: &mut [u8], command: u8, answer: Changed, version: u64)
     requires { ⌜ recordLen ≤ length (now out) ⌝ }
     ensures { λ _. ⌜ now (out .exit) ≡ put (now (out .entry)) 0 (givenBytes command answer version) ⌝ }
 {
@@ -54,7 +54,7 @@ pub fn answer_given(out: &mut [u8], command: u8, answer: Changed, version: u64)
 }
 
 // A handle that a call gives has an array of sixteen, so that its slot gives it back whole.
-pub fn fill_given(slots: &mut [u64], slot: usize, answer: Changed, handle: Handle)
+pub(crate) fn fill_given(slots: &mut [u64], slot: usize, answer: Changed, handle: Handle)
     requires { ⌜ (length (now slots) ≡ allWords) × (slot < 16) ⌝ }
     ensures { λ _. ⌜ (now (slots .exit) ≡ filledWith (now (slots .entry)) slot answer handle) × (length (handle .set) ≡ maxOpen) ⌝ }
 {
@@ -78,7 +78,7 @@ fn answer_value(out: &mut [u8], value: &[u8])
 }
 
 // The answer of a get.
-pub fn answer_got(out: &mut [u8], log: &[u8], answer: Located)
+pub(crate) fn answer_got(out: &mut [u8], log: &[u8], answer: Located)
     requires { ⌜ recordLen ≤ length (now out) ⌝ }
     ensures { λ _. ⌜ now (out .exit) ≡ put (now (out .entry)) 0 (gotBytes (now (log .entry)) answer) ⌝ }
 {
@@ -89,7 +89,7 @@ pub fn answer_got(out: &mut [u8], log: &[u8], answer: Located)
 }
 
 // The answer of a write or an end: its number alone.
-pub fn answer_changed(out: &mut [u8], command: u8, answer: Changed)
+pub(crate) fn answer_changed(out: &mut [u8], command: u8, answer: Changed)
     requires { ⌜ recordLen ≤ length (now out) ⌝ }
     ensures { λ _. ⌜ now (out .exit) ≡ put (now (out .entry)) 0 (plainly (changedNumber answer) command) ⌝ }
 {
@@ -99,7 +99,7 @@ pub fn answer_changed(out: &mut [u8], command: u8, answer: Changed)
     }
 }
 
-pub fn empty_ended(slots: &mut [u64], slot: usize, answer: Changed)
+pub(crate) fn empty_ended(slots: &mut [u64], slot: usize, answer: Changed)
     requires { ⌜ (length (now slots) ≡ allWords) × (slot < 16) ⌝ }
     ensures { λ _. ⌜ now (slots .exit) ≡ emptiedBy (now (slots .entry)) slot answer ⌝ }
 {
@@ -110,7 +110,7 @@ pub fn empty_ended(slots: &mut [u64], slot: usize, answer: Changed)
 }
 
 // The answer of a compaction.
-pub fn answer_used(out: &mut [u8], answer: Changed)
+pub(crate) fn answer_used(out: &mut [u8], answer: Changed)
     requires { ⌜ recordLen ≤ length (now out) ⌝ }
     ensures { λ _. ⌜ now (out .exit) ≡ put (now (out .entry)) 0 (usedBytes answer) ⌝ }
 {
@@ -121,7 +121,7 @@ pub fn answer_used(out: &mut [u8], answer: Changed)
 }
 
 // The answer of a status.
-pub fn answer_counted(out: &mut [u8], answer: Counted)
+pub(crate) fn answer_counted(out: &mut [u8], answer: Counted)
     requires { ⌜ recordLen ≤ length (now out) ⌝ }
     ensures { λ _. ⌜ now (out .exit) ≡ put (now (out .entry)) 0 (countBytes answer) ⌝ }
 {

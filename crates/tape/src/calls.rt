@@ -6,12 +6,17 @@ use crate::answers::answer_got;
 use crate::answers::answer_used;
 use crate::answers::empty_ended;
 use crate::answers::fill_given;
+use crate::format::Request;
+use crate::format::layout::RECORD;
 use crate::state::Turn;
 use crate::state::is_done;
 use crate::state::used_after;
-use compaction::compact::compact;
-use compaction::status::status;
-use handle::Handle;
+use bitcask::Changed;
+use bitcask::Used;
+use bitcask::compact;
+use bitcask::status;
+use mvcc::Begun;
+use mvcc::Handle;
 use mvcc::begin;
 use mvcc::begin_as_of;
 use mvcc::begin_read_only;
@@ -20,17 +25,12 @@ use mvcc::delete;
 use mvcc::get;
 use mvcc::rollback;
 use mvcc::set;
-use recovery::Changed;
-use recovery::Used;
-use tape_record::Request;
-use tape_record::layout::RECORD;
-use txn::Begun;
 ghost use mathlib.Core.Path.{_≡_};
 ghost use Prim.Native.Nat.{_≤_, _<_};
 ghost use lib.ListN.{length};
 ghost use Rattle.isolation.specs.World.{Step, usedBy};
-ghost use Rattle.tape_record.specs.Layout.{recordLen};
-ghost use Rattle.tape_record.specs.Slots.{allWords};
+ghost use Rattle.tape.specs.format.Layout.{recordLen};
+ghost use Rattle.tape.specs.format.Slots.{allWords};
 ghost use Rattle.tape.specs.Turns.{startCall, startUsed, writeCall, endCall, Started, Looked, Written, Ended, Tidied, Told, worldOf};
 ghost use Rattle.tape.specs.Promises.{Lays};
 
@@ -57,7 +57,7 @@ fn started_used(command: u8, answer: Changed, used: Used) -> Used
     used
 }
 
-pub fn start(
+pub(crate) fn start(
     log: &mut [u8],
     used: Used,
     table: &mut [u32],
@@ -76,7 +76,14 @@ pub fn start(
     started_used(q.command, answer, used)
 }
 
-pub fn look(log: &[u8], used: Used, table: &[u32], handle: Handle, key: &[u8], out: &mut [u8])
+pub(crate) fn look(
+    log: &[u8],
+    used: Used,
+    table: &[u32],
+    handle: Handle,
+    key: &[u8],
+    out: &mut [u8],
+)
     requires { ⌜ recordLen ≤ length (now out) ⌝ }
     ensures { λ _. ⌜ Lays (Looked (worldOf (now (log .entry)) (used .len) (now (table .entry))) handle (now (key .entry))) (now (out .entry)) recordLen (now (out .exit)) ⌝ }
 {
@@ -102,7 +109,7 @@ fn changed(
     delete(log, used, table, handle, key)
 }
 
-pub fn write(
+pub(crate) fn write(
     log: &mut [u8],
     used: Used,
     table: &mut [u32],
@@ -130,7 +137,7 @@ fn ended(log: &mut [u8], used: Used, table: &mut [u32], handle: Handle, command:
     rollback(log, used, table, handle)
 }
 
-pub fn end(
+pub(crate) fn end(
     log: &mut [u8],
     used: Used,
     table: &mut [u32],
@@ -149,7 +156,13 @@ pub fn end(
 }
 
 // Command 10: done, the buffer beside the log is the log.
-pub fn tidy(log: &[u8], used: Used, table: &mut [u32], spare: &mut [u8], out: &mut [u8]) -> Turn
+pub(crate) fn tidy(
+    log: &[u8],
+    used: Used,
+    table: &mut [u32],
+    spare: &mut [u8],
+    out: &mut [u8],
+) -> Turn
     requires { ⌜ recordLen ≤ length (now out) ⌝ }
     ensures { λ r. ⌜ Lays (Tidied (now (log .entry)) (used .len) (now (table .entry)) (now (spare .entry)) (r .used .len) (r .other) (now (table .exit)) (now (spare .exit))) (now (out .entry)) (r .len) (now (out .exit)) ⌝ }
 {
@@ -163,7 +176,7 @@ pub fn tidy(log: &[u8], used: Used, table: &mut [u32], spare: &mut [u8], out: &m
 }
 
 // Command 11.
-pub fn tell(log: &[u8], used: Used, table: &[u32], out: &mut [u8])
+pub(crate) fn tell(log: &[u8], used: Used, table: &[u32], out: &mut [u8])
     requires { ⌜ recordLen ≤ length (now out) ⌝ }
     ensures { λ _. ⌜ Lays (Told (worldOf (now (log .entry)) (used .len) (now (table .entry)))) (now (out .entry)) recordLen (now (out .exit)) ⌝ }
 {

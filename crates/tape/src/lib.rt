@@ -2,6 +2,7 @@
 // storage/mvcc.rs and bitcask.rs.
 mod answers;
 mod calls;
+pub mod format;
 mod scan;
 mod state;
 mod turn;

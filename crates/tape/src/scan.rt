@@ -2,21 +2,21 @@
 // the next step wants it and the pair's record has it.
 use crate::answers::put_refusal;
 use crate::answers::put_word;
-use bitcask::answers::Stepped;
-use bitcask::read::part;
-use handle::Handle;
+use crate::format::layout::KEY_ROOM;
+use crate::format::layout::RECORD;
+use crate::format::layout::VALUE_ROOM;
+use crate::format::layout::put_plain;
+use crate::format::layout::put_record;
+use bitcask::Stepped;
+use bitcask::Used;
+use bitcask::part;
+use keycode::Length;
 use keycode::Part;
 use keycode::Refusal;
-use keycode::refusal::Length;
-use keycode::refusal::number_of;
-use keycode::strings::unescape;
+use keycode::number_of;
+use keycode::unescape;
+use mvcc::Handle;
 use mvcc::scan_prefix_step;
-use recovery::Used;
-use tape_record::layout::KEY_ROOM;
-use tape_record::layout::RECORD;
-use tape_record::layout::VALUE_ROOM;
-use tape_record::layout::put_plain;
-use tape_record::layout::put_record;
 ghost use mathlib.Core.Path.{_≡_};
 ghost use mathlib.Core.Bool.{false};
 ghost use mathlib.Core.List.{[]};
@@ -26,7 +26,7 @@ ghost use lib.ListN.{length, take};
 ghost use Rattle.keycode.specs.Buffer.{put};
 ghost use Rattle.keycode.specs.Refusals.{numberOf};
 ghost use Rattle.bitcask.specs.declared.answers.Stepped.the-variants.{Next};
-ghost use Rattle.tape_record.specs.Layout.{recordLen, keyRoom, valueRoom};
+ghost use Rattle.tape.specs.format.Layout.{recordLen, keyRoom, valueRoom};
 ghost use Rattle.tape.specs.Answers.{pairIf, endBytes, shown};
 ghost use Rattle.tape.specs.Turns.{worldOf, Scanned};
 ghost use Rattle.tape.specs.Scans.{ShowsBy, Steps};
@@ -137,7 +137,7 @@ fn show_all(
     }
 }
 
-pub fn scan(
+pub(crate) fn scan(
     log: &[u8],
     used: Used,
     table: &[u32],

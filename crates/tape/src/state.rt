@@ -1,12 +1,12 @@
 // What goes from one record to the next by value.
+use crate::format::layout::RECORD;
+use bitcask::Changed;
+use bitcask::Used;
 use keycode::Refusal;
-use recovery::Changed;
-use recovery::Used;
-use tape_record::layout::RECORD;
 ghost use mathlib.Core.Path.{_≡_};
 ghost use mathlib.Core.Bool.{false};
 ghost use Rattle.isolation.specs.World.{usedBy, isDone};
-ghost use Rattle.tape_record.specs.Layout.{recordLen};
+ghost use Rattle.tape.specs.format.Layout.{recordLen};
 
 // The used length, whether the second of the two lent buffers is the log, and how many bytes of answers were laid.
 pub struct Turn {
@@ -21,7 +21,7 @@ pub enum Taken {
 }
 
 // One record of answers, and the log where it was.
-pub fn one_answer(used: Used) -> Turn
+pub(crate) fn one_answer(used: Used) -> Turn
     ensures { λ t. ⌜ t ≡ record { used = used; other = false; len = recordLen } ⌝ }
 {
     Turn {
@@ -32,7 +32,7 @@ pub fn one_answer(used: Used) -> Turn
 }
 
 // The used length that an answer leaves.
-pub fn used_after(answer: Changed, used: Used) -> Used
+pub(crate) fn used_after(answer: Changed, used: Used) -> Used
     ensures { λ u. ⌜ u .len ≡ usedBy answer (used .len) ⌝ }
 {
     match answer {
@@ -41,7 +41,7 @@ pub fn used_after(answer: Changed, used: Used) -> Used
     }
 }
 
-pub fn is_done(answer: Changed) -> bool
+pub(crate) fn is_done(answer: Changed) -> bool
     ensures { λ r. ⌜ r ≡ isDone answer ⌝ }
 {
     match answer {

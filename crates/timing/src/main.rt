@@ -4,10 +4,10 @@ mod reads;
 mod turns;
 mod writes;
 
+use bitcask::Changed;
+use bitcask::Used;
 use keycode::number::get_number;
 use keycode::parts::clip;
-use recovery::Changed;
-use recovery::Used;
 
 const HEADER: usize = 24;
 
@@ -42,7 +42,7 @@ fn run(r: Request, log: &mut [u8], used: Used, table: &mut [u32], target: &mut [
 }
 
 fn run_opened(r: Request, log: &mut [u8], len: usize, table: &mut [u32], target: &mut [u8]) -> u64 {
-    match recovery::open(log, Used { len }, table) {
+    match bitcask::open(log, Used { len }, table) {
         Changed::Done(used) => run(r, log, used, table, target),
         Changed::Refused(_) => 0,
     }

@@ -2,14 +2,14 @@
 use crate::turns::next;
 use crate::turns::plus;
 use crate::turns::spell;
-use handle::Handle;
+use bitcask::Changed;
+use bitcask::Used;
 use keycode::Part;
 use keycode::parts::clip;
 use mvcc::Bound;
+use mvcc::Handle;
 use mvcc::Located;
 use mvcc::Stepped;
-use recovery::Changed;
-use recovery::Used;
 
 pub fn used_of(answer: Changed) -> u64 {
     match answer {
@@ -22,7 +22,7 @@ pub fn opens(log: &[u8], used: Used, table: &mut [u32], times: u64) -> u64 {
     let mut sum: u64 = 0;
     let mut i: u64 = 0;
     while i < times {
-        sum = plus(sum, used_of(recovery::open(log, used, table)));
+        sum = plus(sum, used_of(bitcask::open(log, used, table)));
         i += 1;
     }
     sum

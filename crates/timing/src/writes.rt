@@ -3,10 +3,10 @@ use crate::reads::used_of;
 use crate::turns::next;
 use crate::turns::plus;
 use crate::turns::spell;
-use compaction::compact::compact;
-use handle::Handle;
-use recovery::Changed;
-use recovery::Used;
+use bitcask::Changed;
+use bitcask::Used;
+use bitcask::compact;
+use mvcc::Handle;
 
 // The used length after a call; where it was refused, the one before.
 fn kept(answer: Changed, used: Used) -> Used {

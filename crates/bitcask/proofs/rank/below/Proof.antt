@@ -1,5 +1,5 @@
 -- `below` is the place that the search finds, as a number.
-use Rattle.bitcask.proofs.RankLaws.{below-at, below-before}
+use Rattle.bitcask.proofs.read.RankLaws.{below-at, below-before}
 use borrow.Author.Needs.{needs}
 use Rattle.bitcask.proofs.rank.below.Statement.{statement}
 use Rattle.bitcask.proofs.rank.below.Tie as tie

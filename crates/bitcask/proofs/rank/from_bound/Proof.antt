@@ -1,6 +1,6 @@
 -- `from_bound` is the rank that the bound names.
-use Rattle.keydir.specs.Slots.{slotsOf}
-use Rattle.bitcask.proofs.RankLaws.{from-included, from-excluded, from-unbounded}
+use Rattle.bitcask.specs.keydir.Slots.{slotsOf}
+use Rattle.bitcask.proofs.read.RankLaws.{from-included, from-excluded, from-unbounded}
 use borrow.Author.Needs.{needs}
 use Rattle.bitcask.proofs.rank.from_bound.Statement.{statement}
 use Rattle.bitcask.proofs.rank.from_bound.Tie as tie

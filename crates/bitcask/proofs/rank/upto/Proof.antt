@@ -1,5 +1,5 @@
 -- `upto` is the place that the search finds, as a number.
-use Rattle.bitcask.proofs.RankLaws.{found-at, upto-at, upto-before}
+use Rattle.bitcask.proofs.read.RankLaws.{found-at, upto-at, upto-before}
 use borrow.Author.Needs.{needs}
 use native.Mathlib.Omega.{arith}
 use Rattle.bitcask.proofs.rank.upto.Statement.{statement}

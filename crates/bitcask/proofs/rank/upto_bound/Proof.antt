@@ -1,6 +1,6 @@
 -- `upto_bound` is the rank that the bound names.
-use Rattle.keydir.specs.Slots.{slotsOf}
-use Rattle.bitcask.proofs.RankLaws.{end-included, end-excluded, end-unbounded}
+use Rattle.bitcask.specs.keydir.Slots.{slotsOf}
+use Rattle.bitcask.proofs.read.RankLaws.{end-included, end-excluded, end-unbounded}
 use borrow.Author.Needs.{needs}
 use Rattle.bitcask.proofs.rank.upto_bound.Statement.{statement}
 use Rattle.bitcask.proofs.rank.upto_bound.Tie as tie

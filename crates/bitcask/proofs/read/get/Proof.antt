@@ -1,9 +1,9 @@
 -- `get`: 13, one look-up, and the place of the value.
 use mathlib.Core.Path.{sym, _∙_}
 use borrow.Author.Tests.{not-true, not-false}
-use Rattle.keydir.proofs.CountLaws.{count-within}
-use Rattle.bitcask.proofs.RankLaws.{found-at}
-use Rattle.bitcask.proofs.ReadLaws.{get-bad, get-absent, get-at}
+use Rattle.bitcask.proofs.keydir.CountLaws.{count-within}
+use Rattle.bitcask.proofs.read.RankLaws.{found-at}
+use Rattle.bitcask.proofs.read.ReadLaws.{get-bad, get-absent, get-at}
 use borrow.Author.Needs.{needs}
 use native.Mathlib.Omega.{arith}
 use Rattle.bitcask.proofs.read.get.Statement.{statement}

@@ -2,9 +2,9 @@
 use mathlib.Core.Path.{sym, ap, _∙_}
 use Prim.Native.Nat.{ℕ, max}
 use borrow.Author.Tests.{not-true, not-false}
-use Rattle.keydir.specs.Slots.{slotsOf}
-use Rattle.keydir.proofs.CountLaws.{count-within}
-use Rattle.bitcask.proofs.ReadLaws.{step-bad, step-none, step-next, start-by}
+use Rattle.bitcask.specs.keydir.Slots.{slotsOf}
+use Rattle.bitcask.proofs.keydir.CountLaws.{count-within}
+use Rattle.bitcask.proofs.read.ReadLaws.{step-bad, step-none, step-next, start-by}
 use borrow.Author.Needs.{needs}
 use native.Mathlib.Omega.{arith}
 use Rattle.bitcask.proofs.read.scan_step.Statement.{statement}

@@ -1,5 +1,5 @@
--- `tjaldrum_encode_txn_active_snapshot` packs what crate keys answers.
-use Rattle.keys.specs.Keys.{txnActiveSnapshot}
+-- `tjaldrum_encode_txn_active_snapshot` packs what crate keycode answers.
+use Rattle.keycode.specs.key.Keys.{txnActiveSnapshot}
 use Rattle.host.proofs.AnswerLaws.{encode-gives}
 use borrow.Author.Needs.{needs}
 use Rattle.host.proofs.coding.tjaldrum_encode_txn_active_snapshot.Statement.{statement}

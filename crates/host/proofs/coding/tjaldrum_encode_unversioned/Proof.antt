@@ -1,5 +1,5 @@
--- `tjaldrum_encode_unversioned` packs what crate keys answers.
-use Rattle.keys.specs.Keys.{unversioned}
+-- `tjaldrum_encode_unversioned` packs what crate keycode answers.
+use Rattle.keycode.specs.key.Keys.{unversioned}
 use Rattle.host.proofs.AnswerLaws.{encode-gives}
 use borrow.Author.Needs.{needs}
 use Rattle.host.proofs.coding.tjaldrum_encode_unversioned.Statement.{statement}

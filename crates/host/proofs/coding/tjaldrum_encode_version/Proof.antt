@@ -1,5 +1,5 @@
--- `tjaldrum_encode_version` packs what crate keys answers.
-use Rattle.keys.specs.Keys.{version as versionKey}
+-- `tjaldrum_encode_version` packs what crate keycode answers.
+use Rattle.keycode.specs.key.Keys.{version as versionKey}
 use Rattle.host.proofs.AnswerLaws.{encode-gives}
 use borrow.Author.Needs.{needs}
 use Rattle.host.proofs.coding.tjaldrum_encode_version.Statement.{statement}

@@ -1,5 +1,5 @@
 -- `take_del` does to the words what recovery's does.
-use Rattle.recovery.proofs.TurnLaws.{found-among, del-takes}
+use Rattle.bitcask.proofs.recovery.TurnLaws.{found-among, del-takes}
 use Rattle.host.specs.Table.{wordsIn}
 use borrow.Author.Needs.{needs}
 use Rattle.host.proofs.opening.take_del.Statement.{statement}

@@ -1,6 +1,6 @@
 -- `take_set` does to the words what recovery's does.
 use borrow.Author.Tests.{not-true, not-false}
-use Rattle.recovery.proofs.TurnLaws.{found-among, set-full, set-takes}
+use Rattle.bitcask.proofs.recovery.TurnLaws.{found-among, set-full, set-takes}
 use Rattle.host.specs.Table.{wordsIn}
 use Rattle.host.proofs.OpenLaws.{room-words}
 use borrow.Author.Needs.{needs}

@@ -1,6 +1,6 @@
 -- `take_turn` does to the words what recovery's does. A whole entry lies within the used length, so its offset and lengths fit a slot's
 -- words.
-use Rattle.recovery.proofs.TurnLaws.{set-within, del-within, turn-over, turn-set, turn-del}
+use Rattle.bitcask.proofs.recovery.TurnLaws.{set-within, del-within, turn-over, turn-set, turn-del}
 use Rattle.host.specs.Table.{wordsIn}
 use borrow.Author.Needs.{needs}
 use native.Mathlib.Omega.{arith}

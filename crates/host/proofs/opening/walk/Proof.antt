@@ -2,7 +2,7 @@
 use Prim.Native.Nat.{_-_}
 use mathlib.Core.Path.{_≡_, refl, _∙_}
 use lib.ListN.{length}
-use Rattle.recovery.proofs.WalkLaws.{Walking, walk-start, walk-room, walk-over, walk-full, walk-next, walk-less}
+use Rattle.bitcask.proofs.recovery.WalkLaws.{Walking, walk-start, walk-room, walk-over, walk-full, walk-next, walk-less}
 use Rattle.host.specs.Table.{wordsIn}
 use Rattle.host.proofs.OpenLaws.{cleared}
 use borrow.Author.Needs.{needs}

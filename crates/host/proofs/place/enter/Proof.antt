@@ -1,6 +1,6 @@
 -- `enter` replaces a slot that is there, and inserts one that is not where there is room.
-use Rattle.keydir.proofs.HalveLaws.{among-at, among-before}
-use Rattle.keydir.proofs.TableLaws.{enter-at, enter-full, enter-new}
+use Rattle.bitcask.proofs.keydir.HalveLaws.{among-at, among-before}
+use Rattle.bitcask.proofs.keydir.TableLaws.{enter-at, enter-full, enter-new}
 use Rattle.host.specs.Table.{wordsIn}
 use Rattle.host.proofs.ByteLaws.{words-length, slot-count}
 use borrow.Author.Needs.{needs}

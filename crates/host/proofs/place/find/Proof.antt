@@ -1,9 +1,9 @@
 -- `find` halves towards the place of the key.
 use Prim.Native.Nat.{_-_}
-use Rattle.keydir.specs.Slots.{slotsOf}
-use Rattle.keydir.specs.Place.{orderAt}
-use Rattle.keydir.proofs.HalveLaws.{Halving, halving-start, halving-up, halving-at, halving-down, halving-end}
-use Rattle.keydir.proofs.PlaceLaws.{place-is}
+use Rattle.bitcask.specs.keydir.Slots.{slotsOf}
+use Rattle.bitcask.specs.keydir.Place.{orderAt}
+use Rattle.bitcask.proofs.keydir.HalveLaws.{Halving, halving-start, halving-up, halving-at, halving-down, halving-end}
+use Rattle.bitcask.proofs.keydir.PlaceLaws.{place-is}
 use Rattle.host.specs.Table.{wordsIn}
 use borrow.Author.Needs.{needs}
 use native.Mathlib.Omega.{arith}

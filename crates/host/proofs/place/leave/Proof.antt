@@ -1,6 +1,6 @@
 -- `leave` removes a slot that is there.
-use Rattle.keydir.proofs.HalveLaws.{among-at}
-use Rattle.keydir.proofs.TableLaws.{leave-at, leave-none}
+use Rattle.bitcask.proofs.keydir.HalveLaws.{among-at}
+use Rattle.bitcask.proofs.keydir.TableLaws.{leave-at, leave-none}
 use Rattle.host.specs.Table.{wordsIn}
 use borrow.Author.Needs.{needs}
 use native.Mathlib.Omega.{arith}

@@ -1,5 +1,5 @@
 -- `order_at` compares a slot's key with a key.
-use Rattle.keydir.proofs.PlaceLaws.{order-is}
+use Rattle.bitcask.proofs.keydir.PlaceLaws.{order-is}
 use Rattle.host.specs.Table.{wordsIn}
 use borrow.Author.Needs.{needs}
 use Rattle.host.proofs.place.order_at.Statement.{statement}

@@ -3,7 +3,7 @@ use Prim.Native.Nat.{_-_, _≤_}
 use mathlib.Core.Path.{_≡_, refl}
 use mathlib.Core.List.{_++_}
 use lib.ListN.{length, length-set, replicate, drop}
-use Rattle.keydir.proofs.WordLaws.{clear-turn, clear-end}
+use Rattle.bitcask.proofs.keydir.WordLaws.{clear-turn, clear-end}
 use native.Mathlib.Omega.{arith}
 use Rattle.host.proofs.slots.clear.Statement.{statement}
 use Rattle.host.proofs.slots.clear.Tie as tie

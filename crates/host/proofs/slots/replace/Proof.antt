@@ -1,6 +1,6 @@
 -- `replace` lays a slot's words over another's.
 use mathlib.Core.Path.{_∙_}
-use Rattle.keydir.proofs.SlotLaws.{replace-is}
+use Rattle.bitcask.proofs.keydir.SlotLaws.{replace-is}
 use Rattle.host.specs.Table.{wordsIn}
 use borrow.Author.Needs.{needs}
 use Rattle.host.proofs.slots.replace.Statement.{statement}

@@ -2,8 +2,8 @@
 use Prim.Native.Nat.{ℕ, _+_, _-_, _≤_}
 use mathlib.Core.Path.{_≡_, refl, ap, _∙_}
 use lib.ListN.{length, length-set}
-use Rattle.keydir.specs.Words.{copied}
-use Rattle.keydir.proofs.WordLaws.{copy-none, down-turn}
+use Rattle.bitcask.specs.keydir.Words.{copied}
+use Rattle.bitcask.proofs.keydir.WordLaws.{copy-none, down-turn}
 use Rattle.host.specs.Table.{slotBytes}
 use native.Mathlib.Omega.{arith}
 use Rattle.host.proofs.slots.shift_down.Statement.{statement}

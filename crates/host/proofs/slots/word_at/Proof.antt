@@ -1,5 +1,5 @@
 -- `word_at` reads four bytes, whose number fits 32 bits.
-use Rattle.entry.proofs.ReadingLaws.{word-part, word-fits, word-read}
+use Rattle.bitcask.proofs.entry.ReadingLaws.{word-part, word-fits, word-read}
 use borrow.Author.Needs.{needs}
 use Rattle.host.proofs.slots.word_at.Statement.{statement}
 use Rattle.host.proofs.slots.word_at.Tie as tie

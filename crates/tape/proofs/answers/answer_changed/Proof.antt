@@ -1,6 +1,6 @@
-use Rattle.recovery.specs.declared.request.Changed.{Changed}
-use Rattle.recovery.specs.Promises.{changedNumber}
-use Rattle.tape_record.specs.Layout.{plainly}
+use Rattle.bitcask.specs.declared.request.Changed.{Changed}
+use Rattle.bitcask.specs.recovery.Promises.{changedNumber}
+use Rattle.tape.specs.format.Layout.{plainly}
 use Rattle.tape.proofs.AnswerLaws.{laid-for}
 use borrow.Author.Needs.{needs}
 use Rattle.tape.proofs.answers.answer_changed.Statement.{statement}
@@ -8,7 +8,7 @@ use Rattle.tape.proofs.answers.answer_changed.Tie as tie
 use Rattle.tape.proofs.answers.answer_changed.Reads as reads
 use Rattle.tape.proofs.answers.answer_changed.Lts as lts
 use Rattle.tape.proofs.answers.put_refusal.Reads as put-refusal-reads
-use Rattle.tape_record.proofs.layout.put_plain.Reads as put-plain-reads
+use Rattle.tape.proofs.format.layout.put_plain.Reads as put-plain-reads
 
 -- src/answers.rt:95:39
 enum-told : tie.Need-enum-told

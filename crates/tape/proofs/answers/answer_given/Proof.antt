@@ -1,4 +1,4 @@
-use Rattle.recovery.specs.declared.request.Changed.{Changed}
+use Rattle.bitcask.specs.declared.request.Changed.{Changed}
 use Rattle.tape.specs.Answers.{givenBytes}
 use Rattle.tape.proofs.AnswerLaws.{laid-for}
 use borrow.Author.Needs.{needs}

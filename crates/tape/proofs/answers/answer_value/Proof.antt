@@ -5,8 +5,8 @@ use Rattle.tape.proofs.answers.answer_value.Statement.{statement}
 use Rattle.tape.proofs.answers.answer_value.Tie as tie
 use Rattle.tape.proofs.answers.answer_value.Reads as reads
 use Rattle.tape.proofs.answers.answer_value.Lts as lts
-use Rattle.tape_record.proofs.layout.put_plain.Reads as put-plain-reads
-use Rattle.tape_record.proofs.layout.put_record.Reads as put-record-reads
+use Rattle.tape.proofs.format.layout.put_plain.Reads as put-plain-reads
+use Rattle.tape.proofs.format.layout.put_record.Reads as put-record-reads
 
 -- src/answers.rt:71:9
 put-plain-requires : tie.Need-put-plain-requires

@@ -5,7 +5,7 @@ use Rattle.tape.proofs.answers.empty_ended.Statement.{statement}
 use Rattle.tape.proofs.answers.empty_ended.Tie as tie
 use Rattle.tape.proofs.answers.empty_ended.Reads as reads
 use Rattle.tape.proofs.answers.empty_ended.Lts as lts
-use Rattle.tape_record.proofs.slots.empty.Reads as empty-reads
+use Rattle.tape.proofs.format.slots.empty.Reads as empty-reads
 
 -- src/answers.rt:105:35
 enum-told : tie.Need-enum-told

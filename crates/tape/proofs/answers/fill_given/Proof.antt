@@ -1,13 +1,13 @@
-use Rattle.handle.proofs.HandleLaws.{full}
+use Rattle.mvcc.proofs.handle.HandleLaws.{full}
 use mathlib.Core.Path.{_∙_, sym, ap}
-use Rattle.recovery.specs.declared.request.Changed.{Changed}
+use Rattle.bitcask.specs.declared.request.Changed.{Changed}
 use Rattle.tape.specs.Answers.{filledWith}
 use borrow.Author.Needs.{needs}
 use Rattle.tape.proofs.answers.fill_given.Statement.{statement}
 use Rattle.tape.proofs.answers.fill_given.Tie as tie
 use Rattle.tape.proofs.answers.fill_given.Reads as reads
 use Rattle.tape.proofs.answers.fill_given.Lts as lts
-use Rattle.tape_record.proofs.slots.fill.Reads as fill-reads
+use Rattle.tape.proofs.format.slots.fill.Reads as fill-reads
 
 -- src/answers.rt:60:34
 enum-told : tie.Need-enum-told

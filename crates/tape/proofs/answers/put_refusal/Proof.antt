@@ -1,13 +1,13 @@
 use Prim.Native.Nat.{ℕ}
 use mathlib.Core.Path.{sym}
-use Rattle.tape_record.specs.Layout.{plainly}
+use Rattle.tape.specs.format.Layout.{plainly}
 use Rattle.tape.proofs.AnswerLaws.{laid-for}
 use borrow.Author.Needs.{needs}
 use Rattle.tape.proofs.answers.put_refusal.Statement.{statement}
 use Rattle.tape.proofs.answers.put_refusal.Tie as tie
 use Rattle.tape.proofs.answers.put_refusal.Reads as reads
 use Rattle.tape.proofs.answers.put_refusal.Lts as lts
-use Rattle.tape_record.proofs.layout.put_plain.Reads as put-plain-reads
+use Rattle.tape.proofs.format.layout.put_plain.Reads as put-plain-reads
 use Rattle.keycode.proofs.refusal.number_of.Reads as number-of-reads
 
 -- src/answers.rt:40:9

@@ -4,9 +4,9 @@ use Rattle.tape.proofs.calls.begun.Statement.{statement}
 use Rattle.tape.proofs.calls.begun.Tie as tie
 use Rattle.tape.proofs.calls.begun.Reads as reads
 use Rattle.tape.proofs.calls.begun.Lts as lts
-use Rattle.mvcc_past.proofs.begin_as_of.Reads as begin-as-of-reads
-use Rattle.mvcc_view.proofs.shared.begin_read_only.Reads as begin-read-only-reads
-use Rattle.mvcc_begin.proofs.start.begin.Reads as begin-reads
+use Rattle.mvcc.proofs.as_of.begin_as_of.Reads as begin-as-of-reads
+use Rattle.mvcc.proofs.read_only.begin_read_only.Reads as begin-read-only-reads
+use Rattle.mvcc.proofs.start.begin.Reads as begin-reads
 
 -- src/calls.rt:42:9
 begin-requires : tie.Need-begin-requires

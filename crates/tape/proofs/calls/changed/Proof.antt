@@ -4,8 +4,8 @@ use Rattle.tape.proofs.calls.changed.Statement.{statement}
 use Rattle.tape.proofs.calls.changed.Tie as tie
 use Rattle.tape.proofs.calls.changed.Reads as reads
 use Rattle.tape.proofs.calls.changed.Lts as lts
-use Rattle.mvcc_write.proofs.change.delete.Reads as delete-reads
-use Rattle.mvcc_write.proofs.change.set.Reads as set-reads
+use Rattle.mvcc.proofs.write.delete.Reads as delete-reads
+use Rattle.mvcc.proofs.write.set.Reads as set-reads
 
 -- src/calls.rt:100:9
 set-requires : tie.Need-set-requires

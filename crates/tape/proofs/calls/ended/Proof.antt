@@ -4,8 +4,8 @@ use Rattle.tape.proofs.calls.ended.Statement.{statement}
 use Rattle.tape.proofs.calls.ended.Tie as tie
 use Rattle.tape.proofs.calls.ended.Reads as reads
 use Rattle.tape.proofs.calls.ended.Lts as lts
-use Rattle.mvcc_end.proofs.commit.commit.Reads as commit-reads
-use Rattle.mvcc_end.proofs.rollback.rollback.Reads as rollback-reads
+use Rattle.mvcc.proofs.end.commit.commit.Reads as commit-reads
+use Rattle.mvcc.proofs.end.rollback.rollback.Reads as rollback-reads
 
 -- src/calls.rt:128:9
 commit-requires : tie.Need-commit-requires

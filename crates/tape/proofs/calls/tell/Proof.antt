@@ -4,7 +4,7 @@ use Rattle.tape.proofs.calls.tell.Statement.{statement}
 use Rattle.tape.proofs.calls.tell.Tie as tie
 use Rattle.tape.proofs.calls.tell.Reads as reads
 use Rattle.tape.proofs.calls.tell.Lts as lts
-use Rattle.compaction.proofs.status.status.Reads as status-reads
+use Rattle.bitcask.proofs.report.status.Reads as status-reads
 use Rattle.tape.proofs.answers.answer_counted.Reads as answer-counted-reads
 
 -- src/calls.rt:170:9

@@ -4,7 +4,7 @@ use Rattle.tape.proofs.calls.tidy.Statement.{statement}
 use Rattle.tape.proofs.calls.tidy.Tie as tie
 use Rattle.tape.proofs.calls.tidy.Reads as reads
 use Rattle.tape.proofs.calls.tidy.Lts as lts
-use Rattle.compaction.proofs.compact.compact.Reads as compact-reads
+use Rattle.bitcask.proofs.compaction.compact.Reads as compact-reads
 use Rattle.tape.proofs.answers.answer_used.Reads as answer-used-reads
 use Rattle.tape.proofs.state.is_done.Reads as is-done-reads
 use Rattle.tape.proofs.state.used_after.Reads as used-after-reads

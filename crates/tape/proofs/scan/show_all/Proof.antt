@@ -4,7 +4,7 @@ use native.Mathlib.Omega.{arith}
 use Prim.Native.Nat.{_-_, _/_}
 use mathlib.Core.Path.{sym, _∙_}
 use lib.ListN.{length}
-use Rattle.tape_record.specs.Layout.{recordLen}
+use Rattle.tape.specs.format.Layout.{recordLen}
 use Rattle.tape.specs.Turns.{worldOf}
 use Rattle.tape.proofs.ScanLaws.{Scanning, scan-start, scan-room, scan-turn, scan-over}
 use Rattle.tape.proofs.scan.show_all.Statement.{statement}

@@ -1,7 +1,7 @@
 -- `admitted` tests the layout, then the slot.
 use mathlib.Core.Path.{_∙_, sym, subst}
 use Prim.Native.Nat.{_<_}
-use Rattle.tape_record.specs.declared.request.Request.{Request}
+use Rattle.tape.specs.declared.format.request.Request.{Request}
 use Rattle.tape.proofs.AdmitLaws.{admit-not, admit-so, proper-slot}
 use borrow.Author.Needs.{needs}
 use Rattle.tape.proofs.turn.admitted.Statement.{statement}

@@ -2,7 +2,7 @@
 use mathlib.Core.Path.{_∙_, sym, subst}
 use native.Mathlib.Omega.{arith}
 use Prim.Native.Nat.{_<_, _≤_}
-use Rattle.tape_record.specs.declared.request.Request.{Request}
+use Rattle.tape.specs.declared.format.request.Request.{Request}
 use Rattle.tape.proofs.AdmitLaws.{slot-below, command-least, command-most}
 use Rattle.tape.proofs.TurnLaws.{turn-short, turn-bad, turn-good}
 use borrow.Author.Needs.{needs}

@@ -1,0 +1,12 @@
+-- The laws of recovery; what stands above cites them.
+pub mod MapLaws
+pub mod ViewLaws
+pub mod ItemLaws
+pub mod CutLaws
+pub mod FoldLaws
+pub mod AgreeLaws
+pub mod TurnLaws
+pub mod WalkLaws
+pub mod OpenLaws
+pub mod GrowLaws
+pub mod Unique

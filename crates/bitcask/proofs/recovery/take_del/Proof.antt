@@ -1,0 +1,21 @@
+-- `recovery::opening::take_del` meets its contract. Assumes nothing.
+use Rattle.bitcask.proofs.recovery.TurnLaws.{found-among, del-takes}
+use borrow.Author.Needs.{needs}
+use Rattle.bitcask.proofs.recovery.take_del.Statement.{statement}
+use Rattle.bitcask.proofs.recovery.take_del.Tie as tie
+
+leave-requires : tie.Need-leave-requires
+leave-requires c κs = let a = c .before .before .before .before .before .before .args in (found-among (a .log .now) (a .table .now) (a .count) (a .s) (c .before .before .key-of .ensures) (c .before .find .ensures), c .before .before .before .before .before .before .pre)
+
+returns : tie.Need-returns
+returns c = let a = c .before .before .before .before .before .before .before .before .before .args in del-takes (a .log .now) (a .table .now) (a .count) (a .s) (c .before .before .before .before .before .key-of .ensures) (c .before .before .before .before .find .ensures) (a .end) (c .before .before .leave .ensures)
+
+pub take-del-spec : {M : Type 1} → statement M
+take-del-spec =
+    tie.close
+    (tie.spec
+    (λ c κs. search needs)
+    (λ c κs. search needs)
+    leave-requires
+    (λ c. search needs)
+    returns)

@@ -1,0 +1,28 @@
+-- `recovery::opening::take_set` meets its contract. Assumes nothing.
+use borrow.Author.Tests.{not-true, not-false}
+use Rattle.bitcask.proofs.recovery.TurnLaws.{found-among, set-full, set-takes}
+use borrow.Author.Needs.{needs}
+use Rattle.bitcask.proofs.recovery.take_set.Statement.{statement}
+use Rattle.bitcask.proofs.recovery.take_set.Tie as tie
+
+returns : tie.Need-returns
+returns c = let a = c .before .before .before .before .before .before .before .args in set-full (a .log .now) (a .table .now) (a .count) (a .s) (c .before .before .before .key-of .ensures) (c .before .before .find .ensures) (a .end) (c .before .has-room .ensures) (not-true _ (c .if1 .taken))
+
+enter-requires : tie.Need-enter-requires
+enter-requires c κs = let a = c .before .before .before .before .before .before .before .before .args in (found-among (a .log .now) (a .table .now) (a .count) (a .s) (c .before .before .before .before .key-of .ensures) (c .before .before .before .find .ensures), c .before .before .before .before .before .before .before .before .pre)
+
+returns-2 : tie.Need-returns-2
+returns-2 c = let a = c .before .before .before .before .before .before .before .before .before .before .before .args in set-takes (a .log .now) (a .table .now) (a .count) (a .s) (c .before .before .before .before .before .before .before .key-of .ensures) (c .before .before .before .before .before .before .find .ensures) (a .end) (c .before .before .before .before .before .has-room .ensures) (not-false _ (c .before .before .before .before .if1 .left)) (c .before .before .enter .ensures)
+
+pub take-set-spec : {M : Type 1} → statement M
+take-set-spec =
+    tie.close
+    (tie.spec
+    (λ c κs. search needs)
+    (λ c κs. search needs)
+    (λ c κs. search needs)
+    (λ c. search needs)
+    returns
+    enter-requires
+    (λ c. search needs)
+    returns-2)

@@ -1,2 +1,0 @@
--- The laws of the encodings; the crates above cite them.
-pub mod EncodeLaws

@@ -1,1 +1,0 @@
-// What the transactions mean, by the calls made and the numbers answered: definitions and laws, and no code.

@@ -1,7 +1,0 @@
--- The laws of what a write and the unversioned set share; the crates above cite them.
-pub mod SizeLaws
-pub mod LayLaws
-pub mod OneLaws
-pub mod PairLaws
-pub mod GrowLaws
-pub mod Unique

@@ -1,5 +1,0 @@
-// What a transaction's write and the unversioned set share: the lengths that they may have, and one entry or two appended, all or none.
-// Document 01, 'Transactions'.
-pub mod one;
-pub mod pair;
-pub mod size;

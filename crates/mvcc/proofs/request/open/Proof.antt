@@ -1,0 +1,39 @@
+-- `open`: read-only handles are; others by their version and then by the look-up of their key.
+use mathlib.Core.Path.{sym}
+use lib.Seq.{length-take-le}
+use Rattle.bitcask.specs.keydir.Slots.{slotsOf}
+use Rattle.mvcc.specs.request.Looks.{liveOf}
+use Rattle.mvcc.specs.request.Checks.{activeKey}
+use Rattle.mvcc.proofs.request.CheckLaws.{open-read, open-zero, open-last, open-look}
+use borrow.Author.Needs.{needs}
+use native.Mathlib.Omega.{arith}
+use Rattle.mvcc.proofs.request.open.Statement.{statement}
+use Rattle.mvcc.proofs.request.open.Tie as tie
+
+returns : tie.Need-returns
+returns c = let a = c .before .before .before .args in open-read (a .handle) (liveOf (a .log .now) (activeKey (a .handle)) (slotsOf (a .count) (a .table .now))) (c .if1 .taken)
+
+returns-2 : tie.Need-returns-2
+returns-2 c = let a = c .before .before .before .before .args in open-zero (a .handle) (liveOf (a .log .now) (activeKey (a .handle)) (slotsOf (a .count) (a .table .now))) (c .before .if1 .left) (c .if2 .taken)
+
+returns-3 : tie.Need-returns-3
+returns-3 c = let a = c .before .before .before .before .before .args in open-last (a .handle) (liveOf (a .log .now) (activeKey (a .handle)) (slotsOf (a .count) (a .table .now))) (c .before .before .if1 .left) (c .before .if2 .left) (c .if3 .taken)
+
+slice-aggregate-live : tie.Need-slice-aggregate-live
+slice-aggregate-live c = let w = c .before .before .active-code .ensures in sym (length-take-le _ _ (omega (arith, w .whole, w .within)))
+
+returns-4 : tie.Need-returns-4
+returns-4 c = let a = c .before .before .before .before .before .before .before .before .before .args in open-look (a .log .now) (slotsOf (a .count) (a .table .now)) (a .handle) (c .before .before .before .active-code .result) _ (c .before .before .before .before .before .before .if1 .left) (c .before .before .before .before .before .if2 .left) (c .before .before .before .before .if3 .left) (c .before .before .before .active-code .ensures) (c .live .ensures)
+
+pub open-spec : {M : Type 1} → statement M
+open-spec =
+    tie.close
+    (tie.spec
+    returns
+    returns-2
+    returns-3
+    (λ c κs. search needs)
+    (λ c. search needs)
+    slice-aggregate-live
+    (λ c κs. search needs)
+    returns-4)

@@ -1,0 +1,31 @@
+-- `held_answer`: an answer for each that a group may hold.
+use mathlib.Core.Path.{sym, ap}
+use Rattle.mvcc.specs.walk.Walks.{heldAnswer}
+use borrow.Author.Needs.{needs}
+use Rattle.mvcc.proofs.walk.held_answer.Statement.{statement}
+use Rattle.mvcc.proofs.walk.held_answer.Tie as tie
+
+returns : tie.Need-returns
+returns c = ap heldAnswer (sym (c .enum-told .given .1))
+
+returns-2 : tie.Need-returns-2
+returns-2 c = ap heldAnswer (sym (c .enum-told2 .given .1))
+
+returns-3 : tie.Need-returns-3
+returns-3 c = ap heldAnswer (sym (c .enum-told3 .given .1))
+
+returns-4 : tie.Need-returns-4
+returns-4 c = ap heldAnswer (sym (c .before .held .given .1))
+
+pub held-answer-spec : {M : Type 1} → statement M
+held-answer-spec =
+    tie.close
+    (tie.spec
+    (λ c. search needs)
+    (λ c. search needs)
+    (λ c. search needs)
+    (λ c. search needs)
+    returns
+    returns-2
+    returns-3
+    returns-4)

@@ -1,0 +1,26 @@
+-- `delete`: the payload is the tombstone's tag alone.
+use Rattle.mvcc.specs.payload.Payloads.{valueBytes}
+use borrow.Author.Needs.{needs}
+use Rattle.mvcc.proofs.write.delete.Statement.{statement}
+use Rattle.mvcc.proofs.write.delete.Tie as tie
+
+same-length : tie.Need-same-length
+same-length c = c .before .before .before .before .write .kept .0
+
+same-length-2 : tie.Need-same-length-2
+same-length-2 c = c .before .before .before .before .write .kept .1 .1 .0
+
+returns : tie.Need-returns
+unfolding valueBytes
+returns c = c .before .before .before .before .write .ensures
+
+pub delete-spec : {M : Type 1} → statement M
+delete-spec =
+    tie.close
+    (tie.spec
+    (λ c. search needs)
+    (λ c. search needs)
+    (λ c κs. search needs)
+    same-length
+    same-length-2
+    returns)

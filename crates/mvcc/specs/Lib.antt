@@ -1,0 +1,19 @@
+-- The definitions, a module for each part.
+pub mod handle
+pub mod payload
+pub mod request
+pub mod snapshot
+pub mod start
+pub mod as_of
+pub mod read_only
+pub mod version
+pub mod read
+pub mod append
+pub mod conflict
+pub mod write
+pub mod unversioned
+pub mod walk
+pub mod scan
+pub mod delete_range
+pub mod undo
+pub mod end

@@ -1,1 +1,0 @@
-// The store's map as records: definitions and laws, and no code.
