@@ -15,7 +15,7 @@ fn wide(n: u8) -> u64
     n as u64
 }
 
-pub fn told(a: Length) -> u64
+pub(crate) fn told(a: Length) -> u64
     ensures { λ r. ⌜ r ≡ packed a ⌝ }
 {
     match a {

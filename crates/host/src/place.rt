@@ -25,7 +25,7 @@ fn order_at(log: &[u8], table: &[u8], count: usize, i: usize, key: &[u8]) -> Ord
 }
 
 // The place of a key among the first `count` slots, by halving.
-pub fn find(log: &[u8], table: &[u8], count: usize, key: &[u8]) -> Found
+pub(crate) fn find(log: &[u8], table: &[u8], count: usize, key: &[u8]) -> Found
     requires { ⌜ slotWords * count ≤ length (wordsIn (now table)) ⌝ }
     ensures { λ r. ⌜ r ≡ placeOf (now (log .entry)) (now (key .entry)) (slotsOf count (wordsIn (now (table .entry)))) ⌝ }
 {
@@ -50,7 +50,7 @@ pub fn find(log: &[u8], table: &[u8], count: usize, key: &[u8]) -> Found
 }
 
 // A slot put in at a place that was found; gives the slots in use then. A new one that has no room leaves the table.
-pub fn enter(table: &mut [u8], count: usize, found: Found, s: Slot) -> usize
+pub(crate) fn enter(table: &mut [u8], count: usize, found: Found, s: Slot) -> usize
     requires { ⌜ (Among count found) × (slotWords * count ≤ length (wordsIn (now table))) ⌝ }
     ensures { λ r. ⌜ Becomes (wordsIn (now (table .entry))) count (entered (wordsIn (now (table .entry))) s found (slotsOf count (wordsIn (now (table .entry))))) (wordsIn (now (table .exit))) r ⌝ }
 {
@@ -70,7 +70,7 @@ pub fn enter(table: &mut [u8], count: usize, found: Found, s: Slot) -> usize
 }
 
 // The slot at a place that was found taken out, if there is one; gives the slots in use then.
-pub fn leave(table: &mut [u8], count: usize, found: Found) -> usize
+pub(crate) fn leave(table: &mut [u8], count: usize, found: Found) -> usize
     requires { ⌜ (Among count found) × (slotWords * count ≤ length (wordsIn (now table))) ⌝ }
     ensures { λ r. ⌜ Becomes (wordsIn (now (table .entry))) count (cutAt found (slotsOf count (wordsIn (now (table .entry))))) (wordsIn (now (table .exit))) r ⌝ }
 {

@@ -27,7 +27,7 @@ fn word_at(table: &[u8], at: usize) -> u32
 }
 
 // The i-th slot.
-pub fn slot_at(table: &[u8], i: usize) -> Slot
+pub(crate) fn slot_at(table: &[u8], i: usize) -> Slot
     requires { ⌜ slotWords * i + slotWords ≤ length (wordsIn (now table)) ⌝ }
     ensures { λ r. ⌜ r ≡ slotAt (wordsIn (now (table .entry))) i ⌝ }
 {
@@ -82,7 +82,7 @@ fn shift_down(table: &mut [u8], from: usize, to: usize)
 }
 
 // Every byte 0.
-pub fn clear(table: &mut [u8])
+pub(crate) fn clear(table: &mut [u8])
     ensures { λ _. ⌜ now (table .exit) ≡ replicate (length (now (table .entry))) 0 ⌝ }
 {
     let mut i = 0;
@@ -93,7 +93,7 @@ pub fn clear(table: &mut [u8])
 }
 
 // A slot before the i-th of `count`.
-pub fn insert(table: &mut [u8], count: usize, i: usize, s: Slot)
+pub(crate) fn insert(table: &mut [u8], count: usize, i: usize, s: Slot)
     requires { ⌜ (i ≤ count) × (slotWords * count + slotWords ≤ length (wordsIn (now table))) ⌝ }
     ensures { λ _. ⌜ wordsIn (now (table .exit)) ≡ wordsOf (insertAt i s (slotsOf count (wordsIn (now (table .entry))))) ++ drop (slotWords * count + slotWords) (wordsIn (now (table .entry))) ⌝ }
 {
@@ -102,7 +102,7 @@ pub fn insert(table: &mut [u8], count: usize, i: usize, s: Slot)
 }
 
 // The i-th of `count` slots anew.
-pub fn replace(table: &mut [u8], count: usize, i: usize, s: Slot)
+pub(crate) fn replace(table: &mut [u8], count: usize, i: usize, s: Slot)
     requires { ⌜ (i < count) × (slotWords * count ≤ length (wordsIn (now table))) ⌝ }
     ensures { λ _. ⌜ wordsIn (now (table .exit)) ≡ wordsOf (replaceAt i s (slotsOf count (wordsIn (now (table .entry))))) ++ drop (slotWords * count) (wordsIn (now (table .entry))) ⌝ }
 {
@@ -110,7 +110,7 @@ pub fn replace(table: &mut [u8], count: usize, i: usize, s: Slot)
 }
 
 // The i-th of `count` slots gone, the bytes that it frees at the end cleared.
-pub fn remove(table: &mut [u8], count: usize, i: usize)
+pub(crate) fn remove(table: &mut [u8], count: usize, i: usize)
     requires { ⌜ (i < count) × (slotWords * count ≤ length (wordsIn (now table))) ⌝ }
     ensures { λ _. ⌜ wordsIn (now (table .exit)) ≡ wordsOf (removeAt i (slotsOf count (wordsIn (now (table .entry))))) ++ (replicate slotWords 0 ++ drop (slotWords * count) (wordsIn (now (table .entry)))) ⌝ }
 {

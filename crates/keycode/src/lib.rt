@@ -12,14 +12,6 @@ pub mod prefix;
 pub mod refusal;
 pub mod strings;
 
-pub use code::Code;
-pub use code::active_code;
-pub use code::next_version_code;
-pub use code::prefix_code;
-pub use code::snapshot_code;
-pub use code::unversioned_code;
-pub use code::version_code;
-pub use code::write_code;
 pub use encode::encode_next_version;
 pub use encode::encode_txn_active;
 pub use encode::encode_txn_active_snapshot;

@@ -16,7 +16,7 @@ use bitcask::keydir::count;
 use bitcask::keydir::value_of;
 use bitcask::request::fits;
 use keycode::Refusal;
-use keycode::snapshot_code;
+use keycode::code::snapshot_code;
 ghost use mathlib.Core.Path.{_≡_};
 ghost use Prim.Native.Nat.{_*_, _≤_};
 ghost use lib.ListN.{length};

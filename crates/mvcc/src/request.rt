@@ -6,7 +6,7 @@ use bitcask::append::Check;
 use bitcask::keydir::count;
 use bitcask::request::fits;
 use keycode::Refusal;
-use keycode::active_code;
+use keycode::code::active_code;
 ghost use mathlib.Core.Path.{_≡_};
 ghost use Prim.Native.Nat.{_*_, _≤_};
 ghost use lib.ListN.{length};

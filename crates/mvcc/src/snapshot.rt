@@ -9,7 +9,7 @@ use crate::range::active_range;
 use bitcask::keydir::key_of;
 use bitcask::keydir::slot_at;
 use bitcask::keydir::value_of;
-use keycode::next_version_code;
+use keycode::code::next_version_code;
 use keycode::number::get_number;
 use keycode::parts::clip;
 ghost use mathlib.Core.Path.{_≡_};

@@ -7,7 +7,7 @@ use bitcask::Changed;
 use bitcask::Used;
 use bitcask::append::Check;
 use bitcask::keydir::count;
-use keycode::active_code;
+use keycode::code::active_code;
 ghost use Rattle.mvcc.specs.end.Promises.{Commits};
 
 // The records are deleted as they are, decodable or not. A read-only handle has none, so that it ends at once.

@@ -8,7 +8,7 @@ use bitcask::Changed;
 use bitcask::Used;
 use bitcask::append::Check;
 use bitcask::keydir::count;
-use keycode::active_code;
+use keycode::code::active_code;
 ghost use Rattle.mvcc.specs.end.Promises.{RollsBack};
 
 // A read-only handle has written nothing, so that it ends at once.

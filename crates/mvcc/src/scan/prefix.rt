@@ -8,7 +8,7 @@ use bitcask::Stepped;
 use bitcask::Used;
 use bitcask::append::Check;
 use bitcask::keydir::count;
-use keycode::prefix_code;
+use keycode::code::prefix_code;
 ghost use mathlib.Core.Path.{_≡_};
 ghost use mathlib.Core.Bool.{true};
 ghost use Prim.Native.Nat.{_*_, _≤_};

@@ -7,8 +7,8 @@ use bitcask::keydir::count;
 use bitcask::read::value_part;
 use bitcask::request::fits;
 use keycode::Refusal;
+use keycode::code::unversioned_code;
 use keycode::limits::MAX_KEY;
-use keycode::unversioned_code;
 ghost use Rattle.mvcc.specs.unversioned.Promises.{GetsUnversioned};
 
 pub fn get_unversioned(log: &[u8], used: Used, table: &[u32], key: &[u8]) -> Located

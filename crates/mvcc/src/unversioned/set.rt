@@ -7,7 +7,7 @@ use bitcask::append::Check;
 use bitcask::keydir::count;
 use bitcask::request::fits;
 use keycode::Refusal;
-use keycode::unversioned_code;
+use keycode::code::unversioned_code;
 ghost use Rattle.mvcc.specs.unversioned.Promises.{SetsPlain};
 
 pub fn set_unversioned(
