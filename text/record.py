@@ -1,6 +1,6 @@
 """One record of a tape in document 01's layout, and how it is spelt in words.
 
-Reading a script and showing a run both rest on this file, so that layout and spelling are said once.
+Reading a text and showing a run both rest on this file, so that layout and spelling are said once.
 """
 
 import re
@@ -16,7 +16,7 @@ NUMBERS = (
     "NoSuchVersion", "VersionsSpent", "BadStore", "BadRequest",
 )
 
-# Each command's word, its number and the fields that it uses, in the order in which a script has them.
+# Each command's word, its number and the fields that it uses, in the order in which a text has them.
 COMMANDS = {
     "begin": (1, ("slot",)),
     "read-only": (2, ("slot",)),
@@ -68,7 +68,7 @@ def unpacked(record: bytes) -> Optional[Record]:
 
 
 def spelt(data: bytes) -> str:
-    """Bytes as a script may have them: a bare word, else quoted text, else (not UTF-8) hex."""
+    """Bytes as a text may have them: a bare word, else quoted text, else (not UTF-8) hex."""
     try:
         text = data.decode("utf-8")
     except UnicodeDecodeError:
@@ -88,7 +88,7 @@ def _escaped(sign: str) -> str:
 
 
 def request_words(record: bytes) -> str:
-    """The script line that makes these bytes: a command where one does, else the bytes themselves."""
+    """The text line that makes these bytes: a command where one does, else the bytes themselves."""
     if len(record) < RECORD:
         return "raw " + record.hex()
     fields = unpacked(record)

@@ -1,4 +1,4 @@
-"""Tapes in words: makes the tape of a script, has ./run run it, and shows each request with its answers.
+"""Tapes in words: makes the tape of a text, has ./run run it, and shows each request with its answers.
 
 ./run calls this as `tape.py make|text|words FILE`; FILE may be -, standard input.
 """
@@ -10,7 +10,7 @@ import sys
 from typing import Iterator, List
 
 from record import NUMBERS, RECORD, Record, request_words, spelt, unpacked
-from script import Item, read_script
+from source import Item, read_source
 
 RUN = pathlib.Path(__file__).resolve().parent.parent / "run"
 SCAN = 7
@@ -26,7 +26,7 @@ def chunks(data: bytes) -> List[bytes]:
 
 
 def transcript(items: List[Item], data: bytes) -> Iterator[str]:
-    """A line an answer, a request before its first; what else a script has stays as it is."""
+    """A line an answer, a request before its first; what else a text has stays as it is."""
     width = min(WIDEST, max((len(request_words(item)) for item in items if isinstance(item, bytes)), default=0))
     answers = chunks(data)
     at = 0
@@ -114,7 +114,7 @@ def main(arguments: List[str]) -> int:
         data = sys.stdin.buffer.read() if name == "-" else pathlib.Path(name).read_bytes()
     except OSError as error:
         return said(2, f"run: {name}: {error.strerror}")
-    items, faults = (chunks(data), []) if task == "words" else read_script(data)
+    items, faults = (chunks(data), []) if task == "words" else read_source(data)
     for line, message in faults:
         said(2, f"{name}:{line}: {message}")
     if faults:

@@ -11,7 +11,7 @@ import sys
 import tempfile
 import unittest
 
-from test_script import laid
+from test_source import laid
 
 ROOT = pathlib.Path(__file__).resolve().parent.parent
 TOOLS = "sh cat cp dirname find mkdir readlink sha256sum sort uname".split()
@@ -143,18 +143,18 @@ class Run(unittest.TestCase):
         self.ends(self.run_it("--words", "/"), 2, b"", "run: /: Is a directory\n")
         self.assertEqual(self.builds(), [])
 
-    def test_the_tape_of_a_script(self):
-        (self.outside / "a script").write_bytes(b"# one\nbegin 0\n")
-        self.ends(self.run_it("--text", "a script", "--tape"), 0, BEGIN)
-        self.ends(self.run_it("--tape", "--text", "a script"), 0, BEGIN)
+    def test_the_tape_of_a_text(self):
+        (self.outside / "a text").write_bytes(b"# one\nbegin 0\n")
+        self.ends(self.run_it("--text", "a text", "--tape"), 0, BEGIN)
+        self.ends(self.run_it("--tape", "--text", "a text"), 0, BEGIN)
         self.ends(self.run_it("--tape", "--text", "-", given=b"begin 0\nraw 07"), 0, BEGIN + b"\x07")
         self.assertEqual(self.builds(), [])
 
-    def test_a_script_with_faults_runs_nothing(self):
-        (self.outside / "a script").write_bytes(b"begin 0\nbegin\n\nbegin 16\n")
+    def test_a_text_with_faults_runs_nothing(self):
+        (self.outside / "a text").write_bytes(b"begin 0\nbegin\n\nbegin 16\n")
         for more in (), ("--tape",):
-            ran = self.run_it("--text", "a script", *more)
-            self.ends(ran, 2, b"", "a script:2: it is written: begin SLOT\na script:4: slot 16: a number from 0 to 15 is wanted\n")
+            ran = self.run_it("--text", "a text", *more)
+            self.ends(ran, 2, b"", "a text:2: it is written: begin SLOT\na text:4: slot 16: a number from 0 to 15 is wanted\n")
         self.ends(self.run_it("--text", "-", given=b"x"), 2, b"", "-:1: unknown command x\n")
         self.assertEqual(self.builds(), [])
 

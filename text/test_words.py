@@ -4,7 +4,7 @@ import unittest
 
 from record import spelt
 from tape import Misfit, chunks, transcript
-from test_script import laid
+from test_source import laid
 
 PAIR_ab_xy = laid((1, b"\x07\x02\x02"), (12, b"ab"), (76, b"xy"))
 NOTHING = laid((1, b"\x07"))

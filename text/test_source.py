@@ -1,11 +1,11 @@
-"""Tests of reading scripts: the exact bytes of every form, every message, and that spelling a record undoes reading it."""
+"""Tests of reading texts: the exact bytes of every form, every message, and that spelling a record undoes reading it."""
 
 import pathlib
 import random
 import unittest
 
 from record import COMMANDS, MOST, PLACES, Record, request_words
-from script import read_script
+from source import read_source
 
 SAMPLES = pathlib.Path(__file__).resolve().parent.parent / "samples"
 CASES = pathlib.Path(__file__).resolve().parent / "cases"
@@ -23,14 +23,14 @@ def laid(*parts):
 
 def key_of(line):
     """The bytes that the last word of a line stands for, read as a key."""
-    (record,), faults = read_script(line)
+    (record,), faults = read_source(line)
     assert not faults, faults
     return record[12 : 12 + record[2]]
 
 
 class Making(unittest.TestCase):
-    def makes(self, script, *items):
-        self.assertEqual(read_script(script), (list(items), []))
+    def makes(self, text, *items):
+        self.assertEqual(read_source(text), (list(items), []))
 
     def test_each_command(self):
         self.makes(b"begin 0", laid((0, b"\x01")))
@@ -63,8 +63,8 @@ class Making(unittest.TestCase):
         self.makes(b"raw " + b"ab" * 128 + b"\nstatus", b"\xab" * 128, laid((0, b"\x0b")))
 
     def test_comments_and_blank_lines_stay(self):
-        script = b"# a\n\n \t\nbegin 0 # b\r\n  status #\n"
-        self.makes(script, "# a", "", "", laid((0, b"\x01")), laid((0, b"\x0b")))
+        text = b"# a\n\n \t\nbegin 0 # b\r\n  status #\n"
+        self.makes(text, "# a", "", "", laid((0, b"\x01")), laid((0, b"\x0b")))
         self.makes(b"# a\r\n  # b \t\n", "# a", "  # b")
         self.makes(b"# a\n# no newline", "# a", "# no newline")
         self.makes(b"\n", "")
@@ -82,11 +82,11 @@ class Making(unittest.TestCase):
         self.assertEqual(key_of(b'get 0 "0x61"'), b"0x61")
         self.assertEqual(key_of(b"get 0 0X61"), b"0X61")
 
-    def test_stored_tapes_are_their_scripts(self):
+    def test_stored_tapes_are_their_texts(self):
         """The sample, and the tape that the bench program's stored run has."""
         stored = ((SAMPLES / "bulletins.txt", SAMPLES / "bulletins.tape"), (CASES / "bench.txt", BENCH / "stdin"))
-        for script, tape in stored:
-            items, faults = read_script(script.read_bytes())
+        for text, tape in stored:
+            items, faults = read_source(text.read_bytes())
             self.assertEqual(faults, [])
             self.assertEqual(b"".join(item for item in items if isinstance(item, bytes)), tape.read_bytes())
 
@@ -132,23 +132,23 @@ class Faults(unittest.TestCase):
     def test_each_message(self):
         for line, message in self.MESSAGES:
             with self.subTest(line=line):
-                self.assertEqual(read_script(b"# first\n" + line), (["# first"], [(2, message)]))
+                self.assertEqual(read_source(b"# first\n" + line), (["# first"], [(2, message)]))
 
     def test_nothing_follows_a_record_cut_short(self):
-        items, faults = read_script(b"raw 01\n# a comment may\nstatus\nbegin 0\n")
+        items, faults = read_source(b"raw 01\n# a comment may\nstatus\nbegin 0\n")
         self.assertEqual(items, [b"\x01", "# a comment may"])
         self.assertEqual(faults, [(3, "nothing can follow a record cut short"), (4, "nothing can follow a record cut short")])
 
     def test_all_faults_are_told(self):
-        self.assertEqual([line for line, _ in read_script(b"begin\nbegin 0\nget\n\nset\n")[1]], [1, 3, 5])
+        self.assertEqual([line for line, _ in read_source(b"begin\nbegin 0\nget\n\nset\n")[1]], [1, 3, 5])
 
 
 class RoundTrip(unittest.TestCase):
-    """The words of any record, read as a script, are that record again."""
+    """The words of any record, read as a text, are that record again."""
 
     def stays(self, record):
         words = request_words(record)
-        self.assertEqual(read_script(words.encode()), ([record], []), words)
+        self.assertEqual(read_source(words.encode()), ([record], []), words)
         return words.split()[0]
 
     def test_commands(self):

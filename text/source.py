@@ -1,6 +1,6 @@
-"""Reads a script, a line a command, and makes the records of a tape. README.md, 'A tape in words', has the language.
+"""Reads a text, a line a command, and makes the records of a tape. README.md, 'A tape in words', has the language.
 
-A script with a fault makes no tape. Every fault is told with its line, so that one try finds them all.
+A text with a fault makes no tape. Every fault is told with its line, so that one try finds them all.
 """
 
 import re
@@ -8,7 +8,7 @@ from typing import List, NamedTuple, Optional, Tuple, Union
 
 from record import COMMANDS, MOST, PLACES, RECORD, Record
 
-# What a script has in turn: a record, or a comment or blank line, which is only shown again.
+# What a text has in turn: a record, or a comment or blank line, which is only shown again.
 Item = Union[bytes, str]
 
 NUMBER = re.compile("0*([0-9]{1,20})")
@@ -29,8 +29,8 @@ class Word(NamedTuple):
     quoted: Optional[bytes] = None
 
 
-def read_script(data: bytes) -> Tuple[List[Item], List[Tuple[int, str]]]:
-    """The items of a script, and its faults as line numbers, from 1, with messages."""
+def read_source(data: bytes) -> Tuple[List[Item], List[Tuple[int, str]]]:
+    """The items of a text, and its faults as line numbers, from 1, with messages."""
     items: List[Item] = []
     faults = []
     ended = False
