@@ -47,7 +47,7 @@ use Rattle.mvcc.specs.undo.Plans.{allUsers}
 use Rattle.mvcc.specs.end.Plans.{writesOf, commitPlan, rollbackPlan}
 use Rattle.mvcc.specs.end.Promises.{Commits, commitAnswer, RollsBack, undoAnswer, rollbackAnswer}
 use Rattle.mvcc.proofs.end.EndLaws.{dels-done}
-use Rattle.isolation.specs.history.History.{After, Sight, unborn, status}
+use Rattle.isolation.specs.history.History.{Sight, unborn, status}
 use Rattle.isolation.specs.history.Records.{Map, look, Sorted}
 use Rattle.isolation.specs.history.Calls.{nextOf, setOf as snapOf, actives}
 use Rattle.isolation.proofs.history.EffectLaws.{in-actives}
@@ -57,7 +57,9 @@ use Rattle.isolation.proofs.records.OrderLaws.{order}
 use Rattle.isolation.proofs.records.ActiveLaws.{active-count, actives-rise}
 use Rattle.isolation.proofs.records.ReadLaws.{next-pairs}
 use Rattle.isolation.proofs.records.EndLaws.{users-pairs}
-use Rattle.isolation.specs.World.{World, Calls, begins, Gave, Given, meaning}
+use Rattle.mvcc.specs.world.World.{World, Calls, begins}
+use Rattle.mvcc.specs.world.Runs.{After, Gave, Given}
+use Rattle.isolation.specs.Meaning.{meaning}
 use Rattle.isolation.specs.Views.{Usable, Tells}
 use Rattle.isolation.proofs.GivenLaws.{began-trace}
 use Rattle.isolation.proofs.EndedLaws.{admits, commit-dels, rollback-dels}

@@ -49,7 +49,9 @@ use Rattle.isolation.proofs.records.PlanLaws.{begin-pairs}
 use Rattle.isolation.proofs.records.FineLaws.{fine-begin}
 use Rattle.isolation.proofs.records.ActiveLaws.{active-pairs, actives-fit, actives-rise}
 use Rattle.isolation.proofs.records.ReadLaws.{look-says, next-pairs, snapshot-pairs}
-use Rattle.isolation.specs.World.{World, begins, beginsReading, beginsAsOf, Calls, changedTo, onDone, traceOf}
+use Rattle.mvcc.specs.world.World.{World, begins, beginsReading, beginsAsOf, Calls}
+use Rattle.mvcc.specs.world.Steps.{changedTo}
+use Rattle.isolation.specs.Meaning.{onDone, traceOf}
 use Rattle.isolation.proofs.KeptLaws.{Sound, Kept, Ready, given-cases, kept-other, kept-refused, refused-same}
 use Rattle.isolation.proofs.BegunLaws.{begin-says, reading-says, as-of-says, sight-made, handle-sound}
 

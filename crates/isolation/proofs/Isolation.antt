@@ -42,9 +42,11 @@ use Rattle.mvcc.specs.write.Promises.{Writes}
 use Rattle.mvcc.specs.scan.Bounds.{keysFit, prefixFits}
 use Rattle.mvcc.specs.scan.Promises.{Scanning, Scans, ScansPrefix}
 use Rattle.mvcc.specs.end.Promises.{Commits, RollsBack}
-use Rattle.isolation.specs.history.History.{Key, Bytes, After, unborn, opened, status}
+use Rattle.isolation.specs.history.History.{Key, Bytes, unborn, opened, status}
 use Rattle.isolation.specs.records.Scans.{prefixPast}
-use Rattle.isolation.specs.World.{World, Calls, begins, Gave, Given, Run, meaning}
+use Rattle.mvcc.specs.world.World.{World, Calls, begins}
+use Rattle.mvcc.specs.world.Runs.{After, Gave, Given, Run}
+use Rattle.isolation.specs.Meaning.{meaning}
 use Rattle.isolation.specs.Views.{Usable, Sees, Shows, Meets, sizeIn, Tells}
 use Rattle.isolation.specs.Shown.{ShowsFirst}
 use Rattle.isolation.proofs.HoldLaws.{run-holds}

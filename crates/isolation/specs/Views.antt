@@ -17,8 +17,10 @@ use Rattle.mvcc.specs.declared.handle.Handle.{Handle}
 use Rattle.mvcc.specs.handle.Handles.{rising}
 use Rattle.mvcc.specs.declared.begun.Begun.{Begun}
 use Rattle.mvcc.specs.declared.report.Versions.{Versions}
-use Rattle.isolation.specs.history.History.{Key, Bytes, After, Clash, unborn, opened, status, isIn, isOpen, lastWrite, over, laid, past}
-use Rattle.isolation.specs.World.{begins, beginsReading, beginsAsOf, Calls, Gave, meaning}
+use Rattle.isolation.specs.history.History.{Key, Bytes, Clash, unborn, opened, status, isIn, isOpen, lastWrite, over, laid, past}
+use Rattle.mvcc.specs.world.World.{begins, beginsReading, beginsAsOf, Calls}
+use Rattle.mvcc.specs.world.Runs.{After, Gave}
+use Rattle.isolation.specs.Meaning.{meaning}
 
 -- the handle may be used after the calls T: it is read-only, or its transaction is open
 abbrev pub Usable : Calls → Handle → Type 0
