@@ -11,3 +11,4 @@ pub mod EffectLaws
 pub mod ScanLaws
 pub mod StepLaws
 pub mod RunLaws
+pub mod FewLaws

@@ -4,3 +4,4 @@ pub mod records
 pub mod Meaning
 pub mod Views
 pub mod Shown
+pub mod Listed
