@@ -42,7 +42,7 @@ starts-by log used words n vs r few e = go (eqb n (2 ^ 64 - 1)) refl (leb maxOpe
         → Starts n vs (appendAnswer log used words (beginPlan n vs)) r
     go true p b q f = spent (eqb-true n (2 ^ 64 - 1) p) f
     go false p true q f = many (eqb-false n (2 ^ 64 - 1) p) (omega (arith, leb-true maxOpen (length vs) q)) f
-    go false p false q f = starts (eqb-false n (2 ^ 64 - 1) p) (leb-false maxOpen (length vs) q) f
+    go false p false q f = starts (eqb-false n (2 ^ 64 - 1) p) (omega (arith, leb-false maxOpen (length vs) q)) f
 
 module _ {w : World} {T : Calls} {m : Map} (k : Kept w T m) where
   pub stands : Stands T (nextOf (look m nextVersion)) (actives m)
