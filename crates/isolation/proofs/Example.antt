@@ -55,11 +55,11 @@ T₇ = gets back₃ a found ∷ gets back₂ a (Got.Refused Absent) ∷ gets h�
 
 module _ {w w′ : World} {T : Calls} (R : Run true w T) (c : Call) where
   -- a call with no handle
-  calls : handleIn c ≡ none → Step w c w′ → Run true w′ (c ∷ T)
+  pub calls : handleIn c ≡ none → Step w c w′ → Run true w′ (c ∷ T)
   calls e s = let f : Fair c T = λ h q. nope (cc) in called R f s
 
   -- a call with a handle that was given
-  callsBy : {h : Handle} → handleIn c ≡ some h → Given h T → Step w c w′ → Run true w′ (c ∷ T)
+  pub callsBy : {h : Handle} → handleIn c ≡ some h → Given h T → Step w c w′ → Run true w′ (c ∷ T)
   callsBy {h} e g s = let f : Fair c T = λ j q. let z : h ≡ j = cc in subst (λ (i : Handle). Given i T) z g in called R f s
 
 -- opened; 1 begins

@@ -23,3 +23,5 @@ pub mod TapeLaws
 pub mod Tapes
 pub mod ExampleSteps
 pub mod Example
+pub mod ExampleLaterSteps
+pub mod ExampleLater
