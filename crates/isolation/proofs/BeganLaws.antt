@@ -97,7 +97,7 @@ snap-fits {m} a v = go (look m (txnActiveSnapshot v)) (look-says a (txnActiveSna
 
 -- ---- begin
 
-plan-made : (v : ℕ) (vs : List ℕ) → length vs ≤ maxOpen → planOf (handleOf v false vs) ≡ beginPlan v vs
+pub plan-made : (v : ℕ) (vs : List ℕ) → length vs ≤ maxOpen → planOf (handleOf v false vs) ≡ beginPlan v vs
 unfolding handleOf
 plan-made v vs h = let e = made-set v false vs h in λ j. planBy (length (e j)) v (setBytes (e j))
 
@@ -128,7 +128,7 @@ module _ {w : World} {T : Calls} {m : Map} (k : Kept w T m) (a : Ready w) where
   pub begin-at : (r : Begun) {log t : List ℕ} → Begins (w .log) (w .used) (w .table) r log t → r ≡ beginWith (w .log) (w .used) (length (w .table)) (nextOf (look m nextVersion)) (some (actives m))
   begin-at r b = b .answer a ∙ rw (k .map, next-pairs sorted (k .fine), active-pairs (k .fine))
 
-  made-begin : (r : Begun) (u : Used) {log t : List ℕ} → r .answer ≡ Done u → Begins (w .log) (w .used) (w .table) r log t
+  pub made-begin : (r : Begun) (u : Used) {log t : List ℕ} → r .answer ≡ Done u → Begins (w .log) (w .used) (w .table) r log t
       → Kept (record { log = log; used = u .len; table = t }) (begins r ∷ T) (beginMap keyOrder m) × Agrees log (u .len) t
   unfolding traceOf
   made-begin r u {log} {t} e b =

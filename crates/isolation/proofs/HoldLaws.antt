@@ -41,7 +41,7 @@ none-given (by-begin f g) = absurd (after-none f refl)
 none-given (by-reading f g) = absurd (after-none f refl)
 none-given (by-asOf f g) = absurd (after-none f refl)
 
-empty-map : (log : List ℕ) → mapOf log 0 ≡ pairsIn []
+pub empty-map : (log : List ℕ) → mapOf log 0 ≡ pairsIn []
 unfolding mapOf view recovered fold items itemsOf pairsIn
 empty-map log = refl
 

@@ -75,7 +75,8 @@ use Rattle.isolation.proofs.MeetLaws.{write-meets}
 use Rattle.isolation.proofs.OverLaws.{ended-gets, ended-scans, ended-resumes, ended-writes, ended-commits, ended-rolls}
 use Rattle.isolation.proofs.AnswerLaws.{begins-not, readings-not, as-of-began, as-of-else, begun-new, stated, resumed}
 use Rattle.isolation.proofs.StartLaws.{stands, begin-starts, reading-starts}
-use Rattle.isolation.proofs.NumberLaws.{no-room, plain-gets, plain-sets, open-any, open-exact, compact-exact, get-long, scan-long, commit-ends, rollback-ends, write-reads, write-long, write-large}
+use Rattle.isolation.proofs.NumberLaws.{no-room, plain-gets, plain-sets, open-any, open-exact, compact-exact}
+use Rattle.isolation.proofs.NumberLaws.{get-long, scan-long, commit-ends, rollback-ends, write-reads, write-long, write-large}
 
 -- S1. The first opening, of a buffer of any bytes of which nothing is used and with any table, is done, if the sizes are right.
 pub first-opens : {log t t′ : List ℕ} {r : Changed} → Opens log 0 t r t′ → length log ≤ maxLog → length t % slotWords ≡ 0 → r ≡ Change.Done (record { len = 0 })

@@ -25,3 +25,5 @@ pub mod ExampleSteps
 pub mod Example
 pub mod ExampleLaterSteps
 pub mod ExampleLater
+pub mod AdmitLaws
+pub mod ExampleNine

@@ -4,7 +4,8 @@ use mathlib.Core.List.{List, [], _∷_}
 use Rattle.bitcask.specs.declared.request.Changed.{Changed}
 use Rattle.bitcask.specs.declared.request.Changed.the-variants.{Done, Refused}
 use Rattle.bitcask.specs.recovery.Promises.{changedNumber}
-use Rattle.mvcc.specs.world.World.{Call, opens, compacts, begins, beginsReading, beginsAsOf, resumes, gets, sets, deletes, scans, scansPrefix, commits, rollsBack, getsPlain, setsPlain, states, counts, looks, steps, checks, Calls}
+use Rattle.mvcc.specs.world.World.{Call, opens, compacts, begins, beginsReading, beginsAsOf, resumes, gets, sets, deletes, scans}
+use Rattle.mvcc.specs.world.World.{scansPrefix, commits, rollsBack, getsPlain, setsPlain, states, counts, looks, steps, checks, Calls}
 use Rattle.isolation.specs.history.History.{History}
 use Rattle.isolation.specs.history.Run.{Entry, beginE, readE, asOfE, writeE, commitE, rollbackE, otherE, Trace, events}
 use Rattle.isolation.specs.records.Stored.{sightOf}

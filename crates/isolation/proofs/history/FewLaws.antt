@@ -12,7 +12,7 @@ use Rattle.isolation.specs.history.Records.{Rec, nextRec, activeRec, sna
 use Rattle.isolation.specs.history.Calls.{nextOf, actives, putSnap, beginMap, writeMap, commitMap, rollbackMap, commitKeys, undoKeys, writtenBy}
 use Rattle.isolation.specs.history.Run.{Trace, writeNumber, wrote-map, Run, run-empty, do-begin, do-read, do-asOf, do-write, do-noroom, do-commit, do-rollback, do-plain, do-other}
 
-abbrev one : Rec → ℕ
+abbrev pub one : Rec → ℕ
 one (nextRec n) = 0
 one (activeRec v) = 1
 one (snapRec v s) = 0
@@ -20,10 +20,10 @@ one (wroteRec v k) = 0
 one (verRec k v o) = 0
 one (plainRec k b) = 0
 
-abbrev many : Map → ℕ
+abbrev pub many : Map → ℕ
 many m = length (actives m)
 
-many-cons : (r : Rec) (m : Map) → many (r ∷ m) ≡ one r + many m
+pub many-cons : (r : Rec) (m : Map) → many (r ∷ m) ≡ one r + many m
 unfolding actives
 many-cons (nextRec n) m = omega arith
 many-cons (activeRec v) m = omega arith

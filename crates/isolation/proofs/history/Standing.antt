@@ -7,7 +7,8 @@ use mathlib.Core.Logic.{_≢_}
 use mathlib.Core.Option.{Option, none, some}
 use mathlib.Core.List.{List, [], _∷_}
 use lib.Dec.{leb}
-use Rattle.isolation.specs.history.History.{Key, Bytes, Sight, Event, began, wrote, committed, undone, noted, History, Status, unborn, opened, done, rolled, status, lastWrite, past, Clash, isIn, isOpen, Low, keep, upTo}
+use Rattle.isolation.specs.history.History.{Key, Bytes, Sight, Event, began, wrote, committed, undone, noted, History, Status, unborn}
+use Rattle.isolation.specs.history.History.{opened, done, rolled, status, lastWrite, past, Clash, isIn, isOpen, Low, keep, upTo}
 use Rattle.isolation.specs.history.Store.{Db, isSome}
 
 -- how many read-write transactions began
