@@ -1,7 +1,7 @@
 """A crate without its code: the types that it declares, and of its definitions and laws those that another crate reaches.
 
-What is left of a crate is what a theorem above it rests on. A contract that is weakened there is refused by no code, which is gone, and by no
-law but one that the theorem cites."""
+What is left of a crate is what theorems above it rest on. A contract that is weakened there is refused by no code, which is gone, and by no
+law of a file that the theorems do not reach."""
 import os
 import re
 
@@ -15,7 +15,7 @@ def read(path):
 
 def named(text):
     """The modules that a file's use lines name: (crate, 'specs' or 'proofs', path of the module)."""
-    for crate, own, path in NAMED.findall(text):
+    for crate, _, path in NAMED.findall(text):
         parts = path.strip(".").split(".")
         # the crate's own are Rattle.NAME.specs.X, another's Rattle.NAME.specs.X
         yield crate, parts[0], "/".join(parts[1:])

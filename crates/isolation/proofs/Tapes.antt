@@ -13,33 +13,36 @@ use lib.ListN.{length}
 use borrow.Author.Tests.{le-leb}
 use Rattle.keycode.specs.Tests.{pick}
 use Rattle.keycode.specs.Limits.{maxKey, maxValue}
-use Rattle.keycode.specs.declared.refusal.Refusal.the-variants.{NoSuchVersion}
+use Rattle.keycode.specs.declared.refusal.Refusal.the-variants.{ReadOnly}
 use Rattle.bitcask.specs.declared.request.Changed.{Changed}
+use Rattle.bitcask.specs.declared.request.Changed.the-variants as Change
 use Rattle.bitcask.specs.recovery.Recover.{mapOf}
 use Rattle.bitcask.specs.recovery.Promises.{changedNumber}
 use Rattle.bitcask.specs.change.Append.{appendAnswer}
+use Rattle.bitcask.specs.declared.report.Counted.the-variants as Count
+use Rattle.bitcask.specs.compaction.Promises.{countsOf}
 use Rattle.mvcc.specs.declared.handle.Handle.{Handle}
 use Rattle.mvcc.specs.handle.Handles.{handleOf}
 use Rattle.mvcc.specs.payload.Payloads.{valueBytes}
 use Rattle.mvcc.specs.declared.begun.Begun.{Begun}
-use Rattle.mvcc.specs.request.Given.{refusedBy, begunWith}
 use Rattle.mvcc.specs.start.Plan.{beginPlan}
 use Rattle.mvcc.specs.write.Writes.{plan}
 use Rattle.mvcc.specs.end.Plans.{commitPlan, rollbackPlan}
-use Rattle.mvcc.specs.world.World.{World, begins, gets, sets, deletes, Calls}
+use Rattle.mvcc.specs.world.World.{World, begins, sets, deletes, Calls}
 use Rattle.mvcc.specs.world.Steps.{Step}
 use Rattle.mvcc.specs.world.Runs.{After, Gave, Given, Run}
 use Rattle.tape.specs.declared.format.request.Request.{Request}
 use Rattle.tape.specs.format.Layout.{laid, plainly}
 use Rattle.tape.specs.format.Slots.{fill}
-use Rattle.tape.specs.Answers.{givenBytes, filledWith, gotBytes, emptiedBy}
-use Rattle.tape.specs.Turns.{startCall, writeCall, endCall, Started, started, Looked, looked, Written, written, Scanned, Ended, ended}
+use Rattle.tape.specs.Answers.{givenBytes, filledWith, emptiedBy, usedBytes, countBytes}
+use Rattle.tape.specs.Turns.{startCall, writeCall, endCall, Started, started, Looked, looked, Written, written, Scanned, Ended, ended, Tidied, tidied, Told, told}
 use Rattle.tape.proofs.MeantLaws.{Means, means}
 use Rattle.isolation.specs.history.History.{Key, Bytes, unborn, opened, status}
 use Rattle.isolation.specs.Meaning.{meaning}
-use Rattle.isolation.specs.Views.{Usable, Sees, Meets, sizeIn, Stands, Starts, endedIn}
+use Rattle.isolation.specs.Views.{Usable, Sees, Meets, sizeIn, Stands, Starts, endedIn, compactedIn}
 use Rattle.isolation.specs.Listed.{Lists, writtenBy, valueShown}
-use Rattle.isolation.proofs.Isolation.{get-shows, begin-answers, reading-answers, as-of-answers, as-of-refused, commit-exact, rollback-exact, write-conflicts}
+use Rattle.isolation.proofs.Isolation.{get-shows, begin-answers, reading-answers, as-of-answers, as-of-refused, compact-answers, count-answers, commit-exact, rollback-exact}
+use Rattle.isolation.proofs.Isolation.{write-refused, write-conflicts}
 use Rattle.isolation.proofs.TapeLaws.{value-shown, scan-lists}
 
 module _ {w : World} {T : Calls} (R : Run true w T) where
@@ -106,6 +109,15 @@ module _ {w : World} {T : Calls} (R : Run true w T) where
       go true m = write-conflicts R f g is l (some v) z (m .so)
       go false m = write-conflicts R f g is l none (omega arith) (m .so)
 
+  -- With a read-only handle they answer 2.
+  pub tape-writes-not : {h : Handle} → Given h T → h .«read_only» ≡ true → {c : ℕ} {k v : List ℕ} {w′ : World} {x : List ℕ} → Written w h c k v w′ x → x ≡ plainly 2 c
+  unfolding writeCall
+  tape-writes-not {h} g e {c} {k} {v} {w′} (written a p) = ap (λ (b : Changed). plainly (changedNumber b) c) (go (eqb c 5) (means p))
+    where
+      go : (b : Bool) → Means w (pick b (sets h k v a) (deletes h k a)) w′ → a ≡ Change.Refused ReadOnly
+      go true m = write-refused R g e (m .so)
+      go false m = write-refused R g e (m .so)
+
   -- Command 7: every pair that the handle is to see, in the order of the keys.
   pub tape-scans : {h : Handle} {f : Key → Option Bytes} → Sees T h f → Usable T h → {prefix : Key} {room : ℕ} {x : List ℕ} → length prefix ≤ maxKey → Scanned w h prefix room false [] 0 x
       → Lists f prefix room false [] 0 x
@@ -128,3 +140,10 @@ module _ {w : World} {T : Calls} (R : Run true w T) where
         let m = means (subst (λ (c : ℕ). Step w (endCall c h a) w′) e p) in
         let r = rollback-exact R g u (m .so) in
         (ap (plainly (changedNumber a)) e ∙ ap (λ (b : Changed). plainly (changedNumber b) 9) r, ap (emptiedBy slots (q .slot)) r)
+
+  -- Command 10: the used length of the live entries, 7 where they do not fit the other buffer; command 11: how many keys are live.
+  pub tape-compacts : {spare : List ℕ} {u : ℕ} {d : Bool} {t g x : List ℕ} → Tidied (w .log) (w .used) (w .table) spare u d t g x → x ≡ usedBytes (compactedIn w (length spare))
+  tape-compacts (tidied a p) = ap usedBytes (compact-answers R p)
+
+  pub tape-counts : {x : List ℕ} → Told w x → x ≡ countBytes (Count.Done (countsOf (mapOf (w .log) (w .used)) (w .used)))
+  tape-counts (told a p) = ap countBytes (count-answers R (means p .0))
