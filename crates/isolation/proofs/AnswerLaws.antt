@@ -1,5 +1,5 @@
 -- Theorems: an as-of answers 0 exactly for 0 and the versions that began; no begin answers 12, and none gives a version that was given
--- before; the status answers 0; with a handle that may be used a resume answers 0, a commit and a rollback 0 or 7. Assumes nothing.
+-- before; the status answers 0; with a handle that may be used a resume answers 0. Assumes nothing.
 use Prim.Native.Nat.{ℕ, _+_, _-_, _/_, _^_, _≤_, _<_}
 use mathlib.Core.Path.{_≡_, refl, sym, ap, _∙_}
 use mathlib.Core.Bool.{Bool, true, false}
@@ -47,7 +47,7 @@ use Rattle.mvcc.specs.undo.Plans.{allUsers}
 use Rattle.mvcc.specs.end.Plans.{writesOf, commitPlan, rollbackPlan}
 use Rattle.mvcc.specs.end.Promises.{Commits, commitAnswer, RollsBack, undoAnswer, rollbackAnswer}
 use Rattle.mvcc.proofs.end.EndLaws.{dels-done}
-use Rattle.isolation.specs.history.History.{After, Sight, unborn, status}
+use Rattle.isolation.specs.history.History.{Sight, unborn, status}
 use Rattle.isolation.specs.history.Records.{Map, look, Sorted}
 use Rattle.isolation.specs.history.Calls.{nextOf, setOf as snapOf, actives}
 use Rattle.isolation.proofs.history.EffectLaws.{in-actives}
@@ -57,7 +57,9 @@ use Rattle.isolation.proofs.records.OrderLaws.{order}
 use Rattle.isolation.proofs.records.ActiveLaws.{active-count, actives-rise}
 use Rattle.isolation.proofs.records.ReadLaws.{next-pairs}
 use Rattle.isolation.proofs.records.EndLaws.{users-pairs}
-use Rattle.isolation.specs.World.{World, Calls, begins, Gave, Given, meaning}
+use Rattle.mvcc.specs.world.World.{World, Calls, begins}
+use Rattle.mvcc.specs.world.Runs.{After, Gave, Given}
+use Rattle.isolation.specs.Meaning.{meaning}
 use Rattle.isolation.specs.Views.{Usable, Tells}
 use Rattle.isolation.proofs.GivenLaws.{began-trace}
 use Rattle.isolation.proofs.EndedLaws.{admits, commit-dels, rollback-dels}
@@ -97,22 +99,6 @@ reading-not used n vs = go (leb (length vs) maxOpen)
 
 early : (used : ℕ) (h : Handle) (late : Bool) {r : Begun} → r ≡ pick late (refusedBy NoSuchVersion) (asOfWith used SetAnswers.Fine h) → late ≡ false → changedNumber (r .answer) ≡ 0
 early used h late e p = ap (λ (x : Begun). changedNumber (x .answer)) (e ∙ ap (λ (b : Bool). pick b (refusedBy NoSuchVersion) (asOfWith used SetAnswers.Fine h)) p)
-
--- ---- ends
-
--- a list of tombstones meets no other refusal than that of a full log
-dels-answer : (log : List ℕ) (used : ℕ) (t : List ℕ) (es : List Entry) {r : Changed} → Agrees log used t → Dels es → r ≡ appendAnswer log used (length t) es
-    → (changedNumber r ≡ 0) ⊎ (changedNumber r ≡ 7)
-unfolding appendAnswer
-dels-answer log used t es {r} g d e = go (decLe (used + sizeAll es) (length log))
-  where
-    go : Dec (used + sizeAll es ≤ length log) → (changedNumber r ≡ 0) ⊎ (changedNumber r ≡ 7)
-    go (yes h) = inl (ap changedNumber (e ∙ dels-done log used t es g d h))
-    go (no h) = inr (ap changedNumber e ∙ rw (lt-leb (used + sizeAll es) (length log) (omega arith)))
-
-undo-passed : (c : Check) (ro users : Bool) (x r : Changed) → r ≡ orElse c (pick (pick ro true users) x (Change.Refused BadStore)) → c ≡ Fine → users ≡ true → r ≡ x
-undo-passed c true users x r e p q = e ∙ rw p
-undo-passed c false users x r e p q = e ∙ rw (p, q)
 
 module _ {w : World} {T : Calls} {m : Map} (k : Kept w T m) (a : Ready w) where
   sorted : Sorted keyOrder m
@@ -175,7 +161,7 @@ module _ {w : World} {T : Calls} {m : Map} (k : Kept w T m) (a : Ready w) where
         },
       )
 
-  -- ---- resume, commit and rollback with a handle that may be used
+  -- ---- resume with a handle that may be used
 
   module _ {h : Handle} (g : Given h T) (u : Usable T h) where
     admitted : admits (w .log) (w .used) (w .table) h ≡ Fine
@@ -184,16 +170,3 @@ module _ {w : World} {T : Calls} {m : Map} (k : Kept w T m) (a : Ready w) where
     pub resumed : {r : Begun} → Resumes (w .log) (w .used) (w .table) h r → r ≡ begunWith (w .used) h
     unfolding resumeAnswer
     resumed b = b .answer a ∙ rw admitted
-
-    pub commit-ends : {r : Changed} {log t : List ℕ} → Commits (w .log) (w .used) (w .table) h r log t → (changedNumber r ≡ 0) ⊎ (changedNumber r ≡ 7)
-    unfolding commitAnswer
-    commit-ends b =
-        dels-answer (w .log) (w .used) (w .table) (commitPlan h (mapOf (w .log) (w .used))) a (commit-dels h (mapOf (w .log) (w .used)))
-        (b .answer a ∙ ap (λ (c : Check). orElse c (appendAnswer (w .log) (w .used) (length (w .table)) (commitPlan h (mapOf (w .log) (w .used))))) admitted)
-
-    pub rollback-ends : {r : Changed} {log t : List ℕ} → RollsBack (w .log) (w .used) (w .table) h r log t → (changedNumber r ≡ 0) ⊎ (changedNumber r ≡ 7)
-    unfolding rollbackAnswer undoAnswer
-    rollback-ends {r} b =
-        dels-answer (w .log) (w .used) (w .table) (rollbackPlan h (mapOf (w .log) (w .used))) a (rollback-dels h (mapOf (w .log) (w .used)))
-        (undo-passed (admits (w .log) (w .used) (w .table) h) (h .«read_only») (allUsers (writesOf (h .version) (mapOf (w .log) (w .used))))
-        (appendAnswer (w .log) (w .used) (length (w .table)) (rollbackPlan h (mapOf (w .log) (w .used)))) r (b .answer a) admitted (rw (k .map) (users-pairs h (k .fine))))

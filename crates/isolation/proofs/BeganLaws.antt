@@ -49,7 +49,9 @@ use Rattle.isolation.proofs.records.PlanLaws.{begin-pairs}
 use Rattle.isolation.proofs.records.FineLaws.{fine-begin}
 use Rattle.isolation.proofs.records.ActiveLaws.{active-pairs, actives-fit, actives-rise}
 use Rattle.isolation.proofs.records.ReadLaws.{look-says, next-pairs, snapshot-pairs}
-use Rattle.isolation.specs.World.{World, begins, beginsReading, beginsAsOf, Calls, changedTo, onDone, traceOf}
+use Rattle.mvcc.specs.world.World.{World, begins, beginsReading, beginsAsOf, Calls}
+use Rattle.mvcc.specs.world.Steps.{changedTo}
+use Rattle.isolation.specs.Meaning.{onDone, traceOf}
 use Rattle.isolation.proofs.KeptLaws.{Sound, Kept, Ready, given-cases, kept-other, kept-refused, refused-same}
 use Rattle.isolation.proofs.BegunLaws.{begin-says, reading-says, as-of-says, sight-made, handle-sound}
 
@@ -95,7 +97,7 @@ snap-fits {m} a v = go (look m (txnActiveSnapshot v)) (look-says a (txnActiveSna
 
 -- ---- begin
 
-plan-made : (v : ℕ) (vs : List ℕ) → length vs ≤ maxOpen → planOf (handleOf v false vs) ≡ beginPlan v vs
+pub plan-made : (v : ℕ) (vs : List ℕ) → length vs ≤ maxOpen → planOf (handleOf v false vs) ≡ beginPlan v vs
 unfolding handleOf
 plan-made v vs h = let e = made-set v false vs h in λ j. planBy (length (e j)) v (setBytes (e j))
 
@@ -126,7 +128,7 @@ module _ {w : World} {T : Calls} {m : Map} (k : Kept w T m) (a : Ready w) where
   pub begin-at : (r : Begun) {log t : List ℕ} → Begins (w .log) (w .used) (w .table) r log t → r ≡ beginWith (w .log) (w .used) (length (w .table)) (nextOf (look m nextVersion)) (some (actives m))
   begin-at r b = b .answer a ∙ rw (k .map, next-pairs sorted (k .fine), active-pairs (k .fine))
 
-  made-begin : (r : Begun) (u : Used) {log t : List ℕ} → r .answer ≡ Done u → Begins (w .log) (w .used) (w .table) r log t
+  pub made-begin : (r : Begun) (u : Used) {log t : List ℕ} → r .answer ≡ Done u → Begins (w .log) (w .used) (w .table) r log t
       → Kept (record { log = log; used = u .len; table = t }) (begins r ∷ T) (beginMap keyOrder m) × Agrees log (u .len) t
   unfolding traceOf
   made-begin r u {log} {t} e b =

@@ -6,6 +6,7 @@ use mathlib.Core.Bool.{Bool, true, false}
 use mathlib.Core.Option.{some}
 use mathlib.Core.List.{List}
 use lib.Dec.{leb, eqb}
+use native.Mathlib.Omega.{arith}
 use lib.ListN.{length}
 use borrow.Author.Tests.{leb-true, leb-false, eqb-false}
 use Rattle.keycode.specs.Tests.{pick}
@@ -49,14 +50,14 @@ begin-says log used words n vs r e z = go (eqb n (2 ^ 64 - 1)) refl (leb maxOpen
         → (n ≡ 2 ^ 64 - 1 → ⊥) × (length vs < maxOpen) × (r .handle ≡ handleOf n false vs)
     go true p b q f = refused-not VersionsSpent r f z
     go false p true q f = refused-not TooManyOpen r f z
-    go false p false q f = (eqb-false n (2 ^ 64 - 1) p, leb-false maxOpen (length vs) q, handled (appendAnswer log used words (beginPlan n vs)) f)
+    go false p false q f = (eqb-false n (2 ^ 64 - 1) p, omega (arith, leb-false maxOpen (length vs) q), handled (appendAnswer log used words (beginPlan n vs)) f)
 
 pub reading-says : (used n : ℕ) (vs : List ℕ) (r : Begun) → r ≡ readingWith used n (some vs) → changedNumber (r .answer) ≡ 0
     → (length vs ≤ maxOpen) × (r .handle ≡ handleOf n true vs)
 reading-says used n vs r e z = go (leb (length vs) maxOpen) refl e
   where
     go : (b : Bool) → leb (length vs) maxOpen ≡ b → r ≡ pick b (begunWith used (handleOf n true vs)) (refusedBy TooManyOpen) → (length vs ≤ maxOpen) × (r .handle ≡ handleOf n true vs)
-    go true p q = (leb-true (length vs) maxOpen p, ap (λ (y : Begun). y .handle) q)
+    go true p q = (omega (arith, leb-true (length vs) maxOpen p), ap (λ (y : Begun). y .handle) q)
     go false p q = refused-not TooManyOpen r q z
 
 pub as-of-says : (used v n : ℕ) (s : SetRead) (r : Begun) → r ≡ pick (leb n v) (refusedBy NoSuchVersion) (asOfWith used (s .answer) (s .handle)) → s .answer ≡ SetAnswers.Fine

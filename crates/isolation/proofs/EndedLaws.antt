@@ -6,8 +6,8 @@ use mathlib.Core.List.{List, [], _∷_, _++_}
 use lib.ListN.{length}
 use Rattle.keycode.specs.Tests.{pick, ifDone}
 use Rattle.keycode.specs.Buffer.{put}
+use Rattle.keycode.specs.declared.refusal.Refusal.{Refusal}
 use Rattle.keycode.specs.declared.refusal.Refusal.the-variants.{BadStore}
-use Rattle.keycode.proofs.Basics.{nope}
 use Rattle.bitcask.specs.entry.Entry.{Entry, del}
 use Rattle.bitcask.specs.keydir.Place.{countOf}
 use Rattle.bitcask.specs.declared.request.Changed.{Changed}
@@ -38,9 +38,9 @@ pub else-done : (c : Check) (x r : Changed) → r ≡ orElse c x → changedNumb
 else-done Fine x r e z = (refl, e)
 else-done (Refused y) x r e z = absurd (not-done y (sym (ap changedNumber e) ∙ z))
 
-pick-done : (b : Bool) (x r : Changed) → r ≡ pick b x (Change.Refused BadStore) → changedNumber r ≡ 0 → r ≡ x
-pick-done true x r e z = e
-pick-done false x r e z = nope (cc (sym (ap changedNumber e) ∙ z))
+pick-done : (b : Bool) (x r : Changed) (y : Refusal) → r ≡ pick b x (Change.Refused y) → changedNumber r ≡ 0 → r ≡ x
+pick-done true x r y e z = e
+pick-done false x r y e z = absurd (not-done y (sym (ap changedNumber e) ∙ z))
 
 done-fine : (x r : Changed) → r ≡ x → changedNumber r ≡ 0 → checkOf x ≡ Fine
 done-fine (Change.Done u) r e z = refl
@@ -113,4 +113,4 @@ module _ {log : List ℕ} {used : ℕ} {t : List ℕ} {h : Handle} {r : Changed}
       let a = appendAnswer log used (length t) (rollbackPlan h (mapOf log used)) in
       let b = pick (h .«read_only») true (allUsers (writesOf (h .version) (mapOf log used))) in
       let p = else-done (admits log used t h) (pick b a (Change.Refused BadStore)) r (w .answer g) z in
-      (p .0, ended g (rollback-dels h (mapOf log used)) (w .leaves) (pick-done b a r (p .1) z) z)
+      (p .0, ended g (rollback-dels h (mapOf log used)) (w .leaves) (pick-done b a r BadStore (p .1) z) z)

@@ -24,9 +24,12 @@ use Rattle.mvcc.specs.request.Given.{begunWith}
 use Rattle.mvcc.specs.read.Promises.{Gets}
 use Rattle.mvcc.specs.write.Writes.{plan}
 use Rattle.mvcc.specs.write.Promises.{Writes}
-use Rattle.isolation.specs.history.History.{key≟, now, later, Clash, status, lastWrite, laid, past}
+use Rattle.isolation.specs.history.History.{key≟, Clash, status, lastWrite, laid, past}
 use Rattle.isolation.specs.history.Run.{events}
-use Rattle.isolation.specs.World.{World, Call, Step, opens, compacts, begins, beginsAsOf, gets, sets, commits, Calls, compacting, beginning, beginningAsOf, getting, setting, committing, Given, by-begin, by-asOf, handleIn, Fair, Run, first, opened, called, traceOf, meaning}
+use Rattle.mvcc.specs.world.World.{World, Call, opens, compacts, begins, beginsAsOf, gets, sets, commits, Calls}
+use Rattle.mvcc.specs.world.Steps.{Step, compacting, beginning, beginningAsOf, getting, setting, committing}
+use Rattle.mvcc.specs.world.Runs.{now, later, Given, by-begin, by-asOf, handleIn, Fair, Run, first, opened, called}
+use Rattle.isolation.specs.Meaning.{traceOf, meaning}
 use Rattle.isolation.specs.Views.{writer, asOf, Shows, Meets, clashes, free}
 use Rattle.isolation.proofs.ExampleSteps.{done, a, x, y, h₁, h₂, h₃, back₂, back₃, found, blank, vacant, log₁, log₃, log₅, log₆, table₁, table₃, table₅, table₆, contracts}
 use Rattle.isolation.proofs.Isolation.{get-shows, write-conflicts, over-gets}
@@ -52,11 +55,11 @@ T₇ = gets back₃ a found ∷ gets back₂ a (Got.Refused Absent) ∷ gets h�
 
 module _ {w w′ : World} {T : Calls} (R : Run true w T) (c : Call) where
   -- a call with no handle
-  calls : handleIn c ≡ none → Step w c w′ → Run true w′ (c ∷ T)
+  pub calls : handleIn c ≡ none → Step w c w′ → Run true w′ (c ∷ T)
   calls e s = let f : Fair c T = λ h q. nope (cc) in called R f s
 
   -- a call with a handle that was given
-  callsBy : {h : Handle} → handleIn c ≡ some h → Given h T → Step w c w′ → Run true w′ (c ∷ T)
+  pub callsBy : {h : Handle} → handleIn c ≡ some h → Given h T → Step w c w′ → Run true w′ (c ∷ T)
   callsBy {h} e g s = let f : Fair c T = λ j q. let z : h ≡ j = cc in subst (λ (i : Handle). Given i T) z g in called R f s
 
 -- opened; 1 begins

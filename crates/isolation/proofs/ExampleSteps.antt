@@ -168,7 +168,7 @@ table₆ = 82 ∷ 1 ∷ 8 ∷ 18 ∷ 9 ∷ 0 ∷ 124 ∷ 9 ∷ 0 ∷ 35 ∷ 9 �
 -- ---- the contracts
 
 -- an answer's used length is the one that it was made with
-at-length : (P : ℕ → Type 0) {n : ℕ} {u : Used} → done n ≡ Done u → P n → P (u .len)
+pub at-length : (P : ℕ → Type 0) {n : ℕ} {u : Used} → done n ≡ Done u → P n → P (u .len)
 at-length P {n} {u} e p = let q : n ≡ u .len = cc in subst P q p
 
 -- what the contracts admit, in the order of the run; and the room that the first set finds

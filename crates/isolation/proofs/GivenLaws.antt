@@ -11,11 +11,12 @@ use Rattle.bitcask.specs.recovery.Promises.{changedNumber}
 use Rattle.mvcc.specs.declared.handle.Handle.{Handle}
 use Rattle.mvcc.specs.declared.begun.Begun.{Begun}
 use Rattle.mvcc.proofs.request.CheckLaws.{not-done}
-use Rattle.isolation.specs.history.History.{After, now, later}
 use Rattle.isolation.specs.history.Run.{Entry, beginE, readE, asOfE, otherE, Trace}
 use Rattle.isolation.specs.history.Run as H
 use Rattle.isolation.specs.records.Stored.{sightOf}
-use Rattle.isolation.specs.World.{Call, begins, beginsReading, beginsAsOf, Calls, Gave, Given, by-begin, by-reading, by-asOf, onDone, entryOf, traceOf}
+use Rattle.mvcc.specs.world.World.{Call, begins, beginsReading, beginsAsOf, Calls}
+use Rattle.mvcc.specs.world.Runs.{After, now, later, Gave, Given, by-begin, by-reading, by-asOf}
+use Rattle.isolation.specs.Meaning.{onDone, entryOf, traceOf}
 
 -- ---- later calls
 

@@ -10,11 +10,13 @@ use Rattle.bitcask.specs.keydir.Place.{all-none}
 use Rattle.bitcask.specs.declared.request.Changed.{Changed}
 use Rattle.bitcask.specs.recovery.Recover.{items, itemsOf, fold, recovered, view, mapOf}
 use Rattle.mvcc.specs.declared.handle.Handle.{Handle}
-use Rattle.isolation.specs.history.History.{After, now, later}
 use Rattle.isolation.specs.history.Records.{Map}
 use Rattle.isolation.specs.history.Run.{run-empty, otherE}
 use Rattle.isolation.specs.records.Stored.{pairsIn}
-use Rattle.isolation.specs.World.{World, Call, opens, Calls, Step, compacting, beginning, beginningReading, beginningAsOf, resuming, getting, setting, deleting, scanning, scanningPrefix, committing, rollingBack, gettingPlain, settingPlain, stating, counting, looking, stepping, Given, by-begin, by-reading, by-asOf, Fair, Run, first, opened, called, entryOf, traceOf}
+use Rattle.mvcc.specs.world.World.{World, Call, opens, Calls}
+use Rattle.mvcc.specs.world.Steps.{Step, compacting, beginning, beginningReading, beginningAsOf, resuming, getting, setting, deleting, scanning, scanningPrefix, committing, rollingBack, gettingPlain, settingPlain, stating, counting, looking, stepping, checking}
+use Rattle.mvcc.specs.world.Runs.{After, now, later, Given, by-begin, by-reading, by-asOf, Fair, Run, first, opened, called}
+use Rattle.isolation.specs.Meaning.{entryOf, traceOf}
 use Rattle.isolation.proofs.KeptLaws.{Kept, Ready, given-cases, kept-other, kept-compacted, kept-opened}
 use Rattle.isolation.proofs.BeganLaws.{begun, made-reading, made-as-of}
 use Rattle.isolation.proofs.WroteLaws.{made-write}
@@ -39,7 +41,7 @@ none-given (by-begin f g) = absurd (after-none f refl)
 none-given (by-reading f g) = absurd (after-none f refl)
 none-given (by-asOf f g) = absurd (after-none f refl)
 
-empty-map : (log : List ℕ) → mapOf log 0 ≡ pairsIn []
+pub empty-map : (log : List ℕ) → mapOf log 0 ≡ pairsIn []
 unfolding mapOf view recovered fold items itemsOf pairsIn
 empty-map log = refl
 
@@ -79,6 +81,7 @@ step-holds H f (stating b) = kept-read H refl (λ h. given-cases (λ x i g. nope
 step-holds H f (counting b) = kept-read H refl (λ h. given-cases (λ x i g. nope (cc)) (λ x i g. nope (cc)) (λ v x i g. nope (cc)) (λ g. g))
 step-holds H f (looking b) = kept-read H refl (λ h. given-cases (λ x i g. nope (cc)) (λ x i g. nope (cc)) (λ v x i g. nope (cc)) (λ g. g))
 step-holds H f (stepping b) = kept-read H refl (λ h. given-cases (λ x i g. nope (cc)) (λ x i g. nope (cc)) (λ v x i g. nope (cc)) (λ g. g))
+step-holds H f (checking b) = kept-read H refl (λ h. given-cases (λ x i g. nope (cc)) (λ x i g. nope (cc)) (λ v x i g. nope (cc)) (λ g. g))
 
 -- ---- every run
 

@@ -29,12 +29,14 @@ use Rattle.mvcc.specs.declared.handle.Handle.{Handle}
 use Rattle.mvcc.specs.handle.Handles.{setOf, soundHandle}
 use Rattle.mvcc.specs.payload.Payloads.{Versions}
 use Rattle.mvcc.specs.declared.begun.Begun.{Begun}
-use Rattle.isolation.specs.history.History.{After}
 use Rattle.isolation.specs.history.Records.{Map}
 use Rattle.isolation.specs.history.Run.{Entry, otherE, Trace, do-other}
 use Rattle.isolation.specs.history.Run as H
 use Rattle.isolation.specs.records.Stored.{pairsIn, keyOrder, Fine}
-use Rattle.isolation.specs.World.{World, Call, begins, beginsReading, beginsAsOf, Calls, usedBy, isDone, compactedTo, Gave, Given, by-begin, by-reading, by-asOf, entryOf, traceOf}
+use Rattle.mvcc.specs.world.World.{World, Call, begins, beginsReading, beginsAsOf, Calls}
+use Rattle.mvcc.specs.world.Steps.{usedBy, isDone, compactedTo}
+use Rattle.mvcc.specs.world.Runs.{After, Gave, Given, by-begin, by-reading, by-asOf}
+use Rattle.isolation.specs.Meaning.{entryOf, traceOf}
 use Rattle.isolation.proofs.GivenLaws.{after-cons}
 
 -- a handle as the store gives it

@@ -16,6 +16,14 @@ pub mod ScanLaws
 pub mod MeetLaws
 pub mod OverLaws
 pub mod AnswerLaws
+pub mod StartLaws
+pub mod NumberLaws
 pub mod Isolation
+pub mod TapeLaws
+pub mod Tapes
 pub mod ExampleSteps
 pub mod Example
+pub mod ExampleLaterSteps
+pub mod ExampleLater
+pub mod AdmitLaws
+pub mod ExampleNine

@@ -20,7 +20,7 @@ use Rattle.mvcc.specs.payload.Payloads.{valueBytes}
 use Rattle.mvcc.specs.declared.begun.Begun.{Begun}
 use Rattle.mvcc.specs.write.Writes.{plan}
 use Rattle.mvcc.specs.write.Promises.{Writes}
-use Rattle.isolation.specs.history.History.{Key, Bytes, After, Clash, opened, status}
+use Rattle.isolation.specs.history.History.{Key, Bytes, Clash, opened, status}
 use Rattle.isolation.specs.history.Records.{Map}
 use Rattle.isolation.specs.history.Calls.{conflict}
 use Rattle.isolation.specs.history.Run.{tooLong, writeNumber}
@@ -28,7 +28,9 @@ use Rattle.isolation.specs.history.Run as H
 use Rattle.isolation.proofs.history.RunLaws.{conflict-right, write-open}
 use Rattle.isolation.specs.records.Stored.{sightOf}
 use Rattle.isolation.proofs.records.OrderLaws.{order}
-use Rattle.isolation.specs.World.{World, Calls, begins, Gave, by-begin, meaning}
+use Rattle.mvcc.specs.world.World.{World, Calls, begins}
+use Rattle.mvcc.specs.world.Runs.{After, Gave, by-begin}
+use Rattle.isolation.specs.Meaning.{meaning}
 use Rattle.isolation.specs.Views.{Meets, clashes, free, sizeIn}
 use Rattle.isolation.proofs.GivenLaws.{began-trace}
 use Rattle.isolation.proofs.KeptLaws.{Kept, Ready}

@@ -20,7 +20,7 @@ use Rattle.isolation.proofs.history.RunLaws.{run-sorted}
 use Rattle.isolation.specs.records.Stored.{sightOf}
 use Rattle.isolation.proofs.records.OrderLaws.{order}
 use Rattle.isolation.proofs.records.PairLaws.{live-pairs}
-use Rattle.isolation.specs.World.{World, Calls}
+use Rattle.mvcc.specs.world.World.{World, Calls}
 use Rattle.isolation.proofs.EndedLaws.{admits}
 use Rattle.isolation.proofs.KeptLaws.{Sound, Kept, Ready}
 

@@ -27,13 +27,15 @@ use Rattle.mvcc.specs.write.Writes.{allowBy}
 use Rattle.mvcc.specs.write.Promises.{Writes, writeAnswer}
 use Rattle.mvcc.specs.scan.Promises.{keysBy, scanAnswer, Scanning}
 use Rattle.mvcc.specs.end.Promises.{Commits, commitAnswer, RollsBack, rollbackAnswer}
-use Rattle.isolation.specs.history.History.{After, Status, unborn, opened, done, rolled, status, isOpen}
+use Rattle.isolation.specs.history.History.{Status, unborn, opened, done, rolled, status, isOpen}
 use Rattle.isolation.specs.history.Records.{Map, look}
 use Rattle.isolation.specs.history.Store.{isSome}
 use Rattle.isolation.proofs.history.RunLaws.{run-open, begin-own}
 use Rattle.isolation.specs.records.Stored.{sightOf}
 use Rattle.isolation.proofs.records.OrderLaws.{order}
-use Rattle.isolation.specs.World.{World, Calls, begins, Gave, by-begin, meaning}
+use Rattle.mvcc.specs.world.World.{World, Calls, begins}
+use Rattle.mvcc.specs.world.Runs.{After, Gave, by-begin}
+use Rattle.isolation.specs.Meaning.{meaning}
 use Rattle.isolation.proofs.GivenLaws.{began-trace}
 use Rattle.isolation.proofs.KeptLaws.{Sound, Kept, Ready}
 use Rattle.isolation.proofs.OpenLaws.{open-usable}

@@ -33,7 +33,10 @@ use Rattle.isolation.proofs.records.OrderLaws.{order}
 use Rattle.isolation.proofs.records.PlanLaws.{plain-pairs}
 use Rattle.isolation.proofs.records.EndLaws.{commit-pairs, rollback-pairs, commit-none, rollback-none}
 use Rattle.isolation.proofs.records.FineLaws.{fine-plain, fine-commit, fine-rollback}
-use Rattle.isolation.specs.World.{World, Calls, setsPlain, commits, rollsBack, changedTo, Given, traceOf}
+use Rattle.mvcc.specs.world.World.{World, Calls, setsPlain, commits, rollsBack}
+use Rattle.mvcc.specs.world.Steps.{changedTo}
+use Rattle.mvcc.specs.world.Runs.{Given}
+use Rattle.isolation.specs.Meaning.{traceOf}
 use Rattle.isolation.proofs.GivenLaws.{given-trace}
 use Rattle.isolation.proofs.EndedLaws.{admits, commit-ended, rollback-ended}
 use Rattle.isolation.proofs.KeptLaws.{Sound, Kept, Ready, given-cases, kept-refused, refused-same, lenOf}

@@ -18,12 +18,12 @@ use Rattle.bitcask.specs.keydir.Place.{countOf}
 use Rattle.bitcask.specs.declared.request.Changed.{Changed}
 use Rattle.bitcask.specs.declared.request.Changed.the-variants.{Done, Refused}
 use Rattle.bitcask.specs.recovery.Map.{Pair}
-use Rattle.bitcask.specs.recovery.Recover.{mapOf}
+use Rattle.bitcask.specs.recovery.Recover.{ends, items, mapOf}
 use Rattle.bitcask.specs.recovery.Agree.{Agrees}
 use Rattle.bitcask.specs.recovery.Promises.{changedNumber, Opens}
 use Rattle.bitcask.proofs.recovery.AgreeLaws.{agrees-sound, append-long, append-map, sound-fit}
 use Rattle.bitcask.proofs.recovery.OpenLaws.{opened-says, open-long}
-use Rattle.bitcask.proofs.recovery.GrowLaws.{Grown, grown-opened, grown-append, grown-opens}
+use Rattle.bitcask.proofs.recovery.GrowLaws.{Grown, grown-start, grown-opened, grown-append, grown-opens}
 use Rattle.bitcask.specs.change.Append.{sizeAll, bytesAll, afterAll}
 use Rattle.bitcask.specs.compaction.Promises.{Compacts}
 use Rattle.bitcask.proofs.compaction.GrownLaws.{compacts-grown}
@@ -42,7 +42,9 @@ use Rattle.mvcc.proofs.append.GrowLaws.{Grows}
 use Rattle.mvcc.proofs.write.MapLaws.{writes-grow}
 use Rattle.mvcc.proofs.unversioned.MapLaws.{plain-grow}
 use Rattle.mvcc.specs.end.Promises as End
-use Rattle.isolation.specs.World.{World, Call, Calls, usedBy, isDone, changedTo, compactedTo, Step, compacting, beginning, beginningReading, beginningAsOf, resuming, getting, setting, deleting, scanning, scanningPrefix, committing, rollingBack, gettingPlain, settingPlain, stating, counting, looking, stepping, Run, first, opened, called}
+use Rattle.mvcc.specs.world.World.{World, Call, Calls}
+use Rattle.mvcc.specs.world.Steps.{usedBy, isDone, changedTo, compactedTo, Step, compacting, beginning, beginningReading, beginningAsOf, resuming, getting, setting, deleting, scanning, scanningPrefix, committing, rollingBack, gettingPlain, settingPlain, stating, counting, looking, stepping, checking}
+use Rattle.mvcc.specs.world.Runs.{Run, first, opened, called}
 use Rattle.isolation.proofs.EndedLaws.{Ended, commit-dels, rollback-dels, commit-ended, rollback-ended}
 use Rattle.isolation.proofs.KeptLaws.{Ready, refused-same, lenOf, compact-says}
 use Rattle.isolation.proofs.HoldLaws.{run-holds}
@@ -146,6 +148,7 @@ module _ {w : World} (a : Ready w) (g : Grew w) where
   step-grew (counting b) = g
   step-grew (looking b) = g
   step-grew (stepping b) = g
+  step-grew (checking b) = g
 
 -- ---- every run
 
@@ -157,6 +160,16 @@ grew : {b : Bool} {w : World} {T : Calls} → Run b w T → b ≡ true → Grew 
 grew (first log t {r = r} o) e = open-grew r o e
 grew (opened R t {r = r} o) e = open-grew r o e
 grew (called R f s) e = step-grew (run-holds R .ready refl) (grew R refl) s
+
+-- the used length is the end of the last entry, after refused openings too
+opened-clean : {log : List ℕ} {used : ℕ} {t : List ℕ} (r : Changed) {t′ : List ℕ} → Opens log used t r t′ → ends 0 (items log used 0) ≡ used → ends 0 (items log (usedBy r used) 0) ≡ usedBy r used
+opened-clean (Done u) o e = open-grew (Done u) o refl .clean
+opened-clean (Refused y) o e = e
+
+pub run-clean : {b : Bool} {w : World} {T : Calls} → Run b w T → ends 0 (items (w .log) (w .used) 0) ≡ w .used
+run-clean (first log t {r = r} o) = opened-clean r o (grown-start 0 log .clean)
+run-clean (opened R t {r = r} o) = opened-clean r o (run-clean R)
+run-clean (called R f s) = step-grew (run-holds R .ready refl) (grew R refl) s .clean
 
 module _ {w : World} {T : Calls} (R : Run true w T) where
   pub run-grew : Grew w

@@ -35,7 +35,7 @@ use Rattle.isolation.specs.records.Stored.{pairsIn, sightOf}
 use Rattle.isolation.specs.records.Scans.{givenOf, First, none-shows, first-shows, prefixPast}
 use Rattle.isolation.proofs.records.OrderLaws.{order}
 use Rattle.isolation.proofs.records.ScanLaws.{scan-pairs, prefix-pairs, step-first}
-use Rattle.isolation.specs.World.{World, Calls}
+use Rattle.mvcc.specs.world.World.{World, Calls}
 use Rattle.isolation.specs.Shown.{ShowsFirst, ends, gives}
 use Rattle.isolation.proofs.EndedLaws.{admits}
 use Rattle.isolation.proofs.KeptLaws.{Sound, Kept, Ready}

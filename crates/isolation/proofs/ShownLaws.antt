@@ -35,7 +35,8 @@ use Rattle.isolation.proofs.history.RunLaws.{run-sorted, run-open, get-
 use Rattle.isolation.specs.records.Stored.{keyOrder, sightOf}
 use Rattle.isolation.proofs.records.OrderLaws.{order}
 use Rattle.isolation.proofs.records.SeenLaws.{value-pairs}
-use Rattle.isolation.specs.World.{World, Calls, Given, by-begin, by-reading, by-asOf}
+use Rattle.mvcc.specs.world.World.{World, Calls}
+use Rattle.mvcc.specs.world.Runs.{Given, by-begin, by-reading, by-asOf}
 use Rattle.isolation.specs.Views.{Usable, Sees, writer, reader, asOf, asOfNone, Shows}
 use Rattle.isolation.proofs.GivenLaws.{began-trace, read-trace, as-of-trace}
 use Rattle.isolation.proofs.KeptLaws.{Sound, Kept, Ready}

@@ -51,7 +51,10 @@ use Rattle.isolation.proofs.records.OrderLaws.{order}
 use Rattle.isolation.proofs.records.PlanLaws.{write-pairs}
 use Rattle.isolation.proofs.records.FineLaws.{fine-write}
 use Rattle.isolation.proofs.records.SearchLaws.{search-pairs}
-use Rattle.isolation.specs.World.{World, Call, Calls, changedTo, Given, entryOf, traceOf}
+use Rattle.mvcc.specs.world.World.{World, Call, Calls}
+use Rattle.mvcc.specs.world.Steps.{changedTo}
+use Rattle.mvcc.specs.world.Runs.{Given}
+use Rattle.isolation.specs.Meaning.{entryOf, traceOf}
 use Rattle.isolation.specs.Views.{sizeIn}
 use Rattle.isolation.proofs.GivenLaws.{given-trace}
 use Rattle.isolation.proofs.OpenLaws.{open-usable}

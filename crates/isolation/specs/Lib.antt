@@ -1,6 +1,7 @@
 -- Runs of the store by what its public calls state, and what handles are to see.
 pub mod history
 pub mod records
-pub mod World
+pub mod Meaning
 pub mod Views
 pub mod Shown
+pub mod Listed

@@ -1,24 +1,37 @@
 -- What a handle is to see, from the calls made and the numbers answered alone, and what it is that an answer shows it. Document 01,
 -- 'Demands', the third. Assumes nothing.
-use Prim.Native.Nat.{ℕ, _≤_, _<_}
+use Prim.Native.Nat.{ℕ, _+_, _-_, _/_, _%_, _^_, _≤_, _<_}
 use mathlib.Core.Path.{_≡_}
-use mathlib.Core.Bool.{true}
+use mathlib.Core.Bool.{true, false}
 use mathlib.Core.Option.{Option, none, some}
 use mathlib.Core.Logic.{_≢_, _⊎_}
-use mathlib.Core.List.{List, _∷_}
+use mathlib.Core.List.{List, [], _∷_}
+use lib.Dec.{leb, eqb}
 use lib.ListN.{length, take, drop}
-use Rattle.keycode.specs.declared.refusal.Refusal.the-variants.{Absent, Conflict}
+use Rattle.keycode.specs.Tests.{pick}
+use Rattle.keycode.specs.Limits.{maxOpen, maxLog}
+use Rattle.keycode.specs.declared.refusal.Refusal.the-variants.{Absent, Conflict, LogFull, TooManyOpen, VersionsSpent, BadRequest}
 use Rattle.keycode.specs.declared.parts.Part.{Part}
+use Rattle.bitcask.specs.entry.Entry.{Entry}
+use Rattle.bitcask.specs.keydir.Slots.{slotWords}
 use Rattle.bitcask.specs.declared.request.Changed.{Changed}
 use Rattle.bitcask.specs.declared.request.Changed.the-variants as Change
+use Rattle.bitcask.specs.recovery.Recover.{run, items, mapOf}
+use Rattle.bitcask.specs.recovery.Promises.{openedBy}
 use Rattle.bitcask.specs.declared.answers.Located.{Located}
 use Rattle.bitcask.specs.declared.answers.Located.the-variants as Got
+use Rattle.bitcask.specs.change.Append.{sizeAll}
+use Rattle.bitcask.specs.compaction.Compaction.{entriesOf}
 use Rattle.mvcc.specs.declared.handle.Handle.{Handle}
-use Rattle.mvcc.specs.handle.Handles.{rising}
+use Rattle.mvcc.specs.handle.Handles.{handleOf, rising}
 use Rattle.mvcc.specs.declared.begun.Begun.{Begun}
+use Rattle.mvcc.specs.request.Given.{refusedBy}
+use Rattle.mvcc.specs.start.Begins.{begunBy}
 use Rattle.mvcc.specs.declared.report.Versions.{Versions}
-use Rattle.isolation.specs.history.History.{Key, Bytes, After, Clash, unborn, opened, status, isIn, isOpen, lastWrite, over, laid, past}
-use Rattle.isolation.specs.World.{begins, beginsReading, beginsAsOf, Calls, Gave, meaning}
+use Rattle.isolation.specs.history.History.{Key, Bytes, Clash, unborn, opened, status, isIn, isOpen, lastWrite, over, laid, past}
+use Rattle.mvcc.specs.world.World.{World, begins, beginsReading, beginsAsOf, Calls}
+use Rattle.mvcc.specs.world.Runs.{After, Gave}
+use Rattle.isolation.specs.Meaning.{meaning}
 
 -- the handle may be used after the calls T: it is read-only, or its transaction is open
 abbrev pub Usable : Calls → Handle → Type 0
@@ -58,3 +71,33 @@ pub record Tells (T : Calls) (s : Versions) : Type 0 where
   pub rises : rising versions ≡ true
   pub are-open : (v : ℕ) → isIn v versions ≡ isOpen (status (meaning T) v)
   pub counted : s .«open» ≡ length versions
+
+-- the next version, and the versions that are open: never more than sixteen
+pub record Stands (T : Calls) (next : ℕ) (vs : List ℕ) : Type 0 where
+  pub born : (v : ℕ) → v ≢ 0 → v < next → status (meaning T) v ≢ unborn
+  pub not-yet : (v : ℕ) → next ≤ v → status (meaning T) v ≡ unborn
+  pub are-open : (v : ℕ) → isIn v vs ≡ isOpen (status (meaning T) v)
+  pub rises : rising vs ≡ true
+  pub few : length vs ≤ maxOpen
+
+-- a begin's answer: 11 where no version is left, then 9 where sixteen are open, then what the room in log and table says, 0, 7 or 8; with 0
+-- the handle of the next version and those open
+pub data Starts (next : ℕ) (vs : List ℕ) (room : Changed) (r : Begun) : Type 0 where
+  spent : next ≡ 2 ^ 64 - 1 → r ≡ refusedBy VersionsSpent → Starts next vs room r
+  many : next ≢ 2 ^ 64 - 1 → length vs ≡ maxOpen → r ≡ refusedBy TooManyOpen → Starts next vs room r
+  starts : next ≢ 2 ^ 64 - 1 → length vs < maxOpen → r ≡ begunBy room (handleOf next false vs) → Starts next vs room r
+
+-- what the room alone decides. A commit and a rollback: 7 where their tombstones do not fit the log, else 0
+abbrev pub endedIn : World → List Entry → Changed
+endedIn w es = pick (leb (w .used + sizeAll es) (length (w .log))) (Change.Done (record { len = w .used + sizeAll es })) (Change.Refused LogFull)
+
+-- a compaction into so many bytes: 13 where they are over the largest log, 7 where the live entries do not fit them, else 0
+abbrev pub compactedIn : World → ℕ → Changed
+compactedIn w room =
+    let n = sizeAll (entriesOf (mapOf (w .log) (w .used))) in
+    pick (leb room maxLog) (pick (leb n room) (Change.Done (record { len = n })) (Change.Refused LogFull)) (Change.Refused BadRequest)
+
+-- an opening with so many words: 13 where they are no whole slots, 8 where at some entry the keys are more than the slots, else 0 with
+-- nothing cut
+abbrev pub openedIn : World → ℕ → Changed
+openedIn w words = pick (eqb (words % slotWords) 0) (openedBy (run (w .log) (words / slotWords) (items (w .log) (w .used) 0) []) (w .used)) (Change.Refused BadRequest)

@@ -17,3 +17,4 @@ pub mod scan
 pub mod delete_range
 pub mod undo
 pub mod end
+pub mod world

@@ -10,7 +10,7 @@ use Rattle.keycode.specs.Tests.{pick}
 use Rattle.tape.specs.declared.format.request.Request.{Request}
 use Rattle.tape.specs.format.Requests.{fieldsOf, between, slotMost, modest, proper}
 use Rattle.tape.specs.format.Slots.{filled, slotFits}
-use Rattle.isolation.specs.World.{World}
+use Rattle.mvcc.specs.world.World.{World}
 use Rattle.tape.specs.Turns.{Held, looking, writing, scanning, ending, admitted}
 
 -- both halves of a test

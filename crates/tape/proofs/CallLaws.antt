@@ -23,7 +23,8 @@ use Rattle.mvcc.specs.as_of.Promises.{BeginsAsOf}
 use Rattle.mvcc.specs.read.Promises.{Gets}
 use Rattle.mvcc.specs.write.Promises.{Writes}
 use Rattle.mvcc.specs.end.Promises.{Commits, RollsBack}
-use Rattle.isolation.specs.World.{World, usedBy, isDone, Step, beginning, beginningReading, beginningAsOf, getting, setting, deleting, committing, rollingBack, counting}
+use Rattle.mvcc.specs.world.World.{World}
+use Rattle.mvcc.specs.world.Steps.{usedBy, isDone, Step, beginning, beginningReading, beginningAsOf, getting, setting, deleting, committing, rollingBack, counting}
 use Rattle.tape.specs.declared.format.request.Request.{Request}
 use Rattle.tape.specs.format.Layout.{recordLen, plainly}
 use Rattle.tape.specs.Answers.{givenBytes, filledWith, gotBytes, emptiedBy, usedBytes, countBytes}

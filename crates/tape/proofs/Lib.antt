@@ -1,5 +1,5 @@
 -- The laws of the tape: what a bad record is, the answers' bytes, the commands, the turn, two results that are one, and that a tape is a
--- run of crate isolation.
+-- run of the store.
 pub mod AdmitLaws
 pub mod AnswerLaws
 pub mod CallLaws
@@ -9,3 +9,4 @@ pub mod MeantLaws
 pub mod UniqueSteps
 pub mod Unique
 pub mod RunLaws
+pub mod StartLaws

@@ -13,7 +13,8 @@ use Rattle.mvcc.specs.read.Promises.{Gets}
 use Rattle.mvcc.specs.write.Promises.{Writes}
 use Rattle.mvcc.specs.scan.Promises.{ScansPrefix}
 use Rattle.mvcc.specs.end.Promises.{Commits, RollsBack}
-use Rattle.isolation.specs.World.{World, Call, opens, compacts, begins, beginsReading, beginsAsOf, resumes, gets, sets, deletes, scans, scansPrefix, commits, rollsBack, getsPlain, setsPlain, states, counts, looks, steps, changedTo, Step, compacting, beginning, beginningReading, beginningAsOf, resuming, getting, setting, deleting, scanning, scanningPrefix, committing, rollingBack, gettingPlain, settingPlain, stating, counting, looking, stepping}
+use Rattle.mvcc.specs.world.World.{World, Call, opens, compacts, begins, beginsReading, beginsAsOf, resumes, gets, sets, deletes, scans, scansPrefix, commits, rollsBack, getsPlain, setsPlain, states, counts, looks, steps, checks}
+use Rattle.mvcc.specs.world.Steps.{changedTo, Step, compacting, beginning, beginningReading, beginningAsOf, resuming, getting, setting, deleting, scanning, scanningPrefix, committing, rollingBack, gettingPlain, settingPlain, stating, counting, looking, stepping, checking}
 
 -- the log and the table after a call that changes them
 pub record Left (P : List ℕ → List ℕ → Type 0) (W : List ℕ → List ℕ → World) (w′ : World) : Type 0 where
@@ -46,6 +47,7 @@ Means w (setsPlain k v r) w′ = Unit {0}
 Means w (states r) w′ = Unit {0}
 Means w (looks k r) w′ = Unit {0}
 Means w (steps lower low upper high given last r) w′ = Unit {0}
+Means w (checks r) w′ = Unit {0}
 
 pub means : {w w′ : World} {c : Call} → Step w c w′ → Means w c w′
 means (compacting g b) = tt
@@ -66,3 +68,4 @@ means (stating b) = tt
 means (counting b) = (b, refl)
 means (looking b) = tt
 means (stepping b) = tt
+means (checking b) = tt

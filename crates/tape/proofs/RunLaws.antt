@@ -1,5 +1,5 @@
--- What a tape does is a run of crate isolation: the calls that its records make are those of a run, each with a handle that the store
--- gave. So the theorems of snapshot isolation hold of it. Assumes nothing.
+-- What a tape does is a run of the store: the calls that its records make are those of a run, each with a handle that the store gave. So
+-- the theorems of snapshot isolation hold of it. Assumes nothing.
 use Prim.Native.Nat.{ℕ, _<_}
 use mathlib.Core.Path.{_≡_, refl, sym, ap, _∙_, subst}
 use mathlib.Core.Bool.{Bool, true, false}
@@ -16,8 +16,9 @@ use Rattle.bitcask.specs.declared.request.Changed.the-variants.{Done, Refused}
 use Rattle.bitcask.specs.recovery.Promises.{changedNumber}
 use Rattle.mvcc.specs.declared.handle.Handle.{Handle}
 use Rattle.mvcc.specs.declared.begun.Begun.{Begun}
-use Rattle.isolation.specs.history.History.{After, now, later}
-use Rattle.isolation.specs.World.{World, Call, Calls, begins, beginsReading, beginsAsOf, gets, sets, deletes, scansPrefix, commits, rollsBack, compacts, counts, Step, compacting, Given, by-begin, by-reading, by-asOf, handleIn, Fair, Run, called}
+use Rattle.mvcc.specs.world.World.{World, Call, Calls, begins, beginsReading, beginsAsOf, gets, sets, deletes, scansPrefix, commits, rollsBack, compacts, counts}
+use Rattle.mvcc.specs.world.Steps.{Step, compacting}
+use Rattle.mvcc.specs.world.Runs.{After, now, later, Given, by-begin, by-reading, by-asOf, handleIn, Fair, Run, called}
 use Rattle.tape.specs.declared.format.request.Request.{Request}
 use Rattle.tape.specs.format.Requests.{fieldsOf}
 use Rattle.tape.specs.format.Slots.{allWords, filled, handleAt, fill, empty}
@@ -48,7 +49,7 @@ given-more (by-asOf a g) = by-asOf (later a) g
 slotted-more : {T : Calls} {c : Call} {slots : List ℕ} → Slotted T slots → Slotted (c ∷ T) slots
 slotted-more s = record { long = s .long; given = λ i f. given-more (s .given i f) }
 
-after-both : {A : Type 0} {a b c : List A} → After a b → After b c → After a c
+pub after-both : {A : Type 0} {a b c : List A} → After a b → After b c → After a c
 after-both p now = p
 after-both p (later q) = later (after-both p q)
 

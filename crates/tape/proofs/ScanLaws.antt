@@ -23,7 +23,8 @@ use Rattle.bitcask.specs.declared.answers.Stepped.{Stepped}
 use Rattle.bitcask.specs.declared.answers.Stepped.the-variants as Went
 use Rattle.mvcc.specs.declared.handle.Handle.{Handle}
 use Rattle.mvcc.specs.scan.Promises.{ScansPrefix}
-use Rattle.isolation.specs.World.{World, scansPrefix, Step, scanningPrefix}
+use Rattle.mvcc.specs.world.World.{World, scansPrefix}
+use Rattle.mvcc.specs.world.Steps.{Step, scanningPrefix}
 use Rattle.tape.specs.format.Layout.{recordLen, keyRoom, valueRoom, laid, plainly}
 use Rattle.tape.proofs.format.LayoutLaws.{laid-long, plainly-long}
 use Rattle.tape.specs.declared.scan.Pace.{Pace}

@@ -14,7 +14,8 @@ use Rattle.bitcask.specs.recovery.Promises.{changedNumber}
 use Rattle.bitcask.proofs.compaction.CompactUnique.{compacts-unique}
 use Rattle.mvcc.specs.declared.handle.Handle.{Handle}
 use Rattle.mvcc.specs.declared.begun.Begun.{Begun}
-use Rattle.isolation.specs.World.{World, usedBy, isDone}
+use Rattle.mvcc.specs.world.World.{World}
+use Rattle.mvcc.specs.world.Steps.{usedBy, isDone}
 use Rattle.tape.specs.declared.format.request.Request.{Request}
 use Rattle.tape.specs.format.Layout.{laid, plainly}
 use Rattle.tape.specs.Answers.{givenBytes, filledWith, gotBytes, pair, last, shown, emptiedBy, usedBytes, countBytes}

@@ -21,7 +21,8 @@ use Rattle.mvcc.proofs.write.Unique.{writes-answer, writes-log, writes-table}
 use Rattle.mvcc.proofs.scan.Unique.{scans-unique}
 use Rattle.mvcc.proofs.end.Unique.{commit-unique}
 use Rattle.mvcc.proofs.end.RollbackUnique.{rollback-unique}
-use Rattle.isolation.specs.World.{World, begins, beginsReading, beginsAsOf, gets, sets, deletes, scansPrefix, commits, rollsBack, counts, changedTo, Step}
+use Rattle.mvcc.specs.world.World.{World, begins, beginsReading, beginsAsOf, gets, sets, deletes, scansPrefix, commits, rollsBack, counts}
+use Rattle.mvcc.specs.world.Steps.{changedTo, Step}
 use Rattle.tape.specs.Turns.{startCall, writeCall, endCall}
 use Rattle.tape.proofs.MeantLaws.{Means, means}
 

@@ -7,7 +7,8 @@ use lib.ListN.{length, take}
 use Rattle.keycode.specs.Buffer.{put}
 use Rattle.bitcask.specs.declared.answers.Stepped.{Stepped}
 use Rattle.mvcc.specs.declared.handle.Handle.{Handle}
-use Rattle.isolation.specs.World.{World, scansPrefix, Step}
+use Rattle.mvcc.specs.world.World.{World, scansPrefix}
+use Rattle.mvcc.specs.world.Steps.{Step}
 use Rattle.tape.specs.format.Layout.{recordLen, keyRoom, laid}
 use Rattle.tape.specs.declared.scan.Pace.{Pace}
 use Rattle.tape.specs.declared.scan.Pace.the-variants as Paces

@@ -1,9 +1,9 @@
--- One record of a tape and its answers. What the store does is a step of crate isolation: the definition that the `ensures` of the call
+-- One record of a tape and its answers. What the store does is a step of its world (mvcc): the definition that the `ensures` of the call
 -- cites, from the world before to the world after. Document 01, 'Tape'. Assumes nothing.
 use Prim.Native.Nat.{ℕ, _+_, _≤_}
 use mathlib.Core.Path.{_≡_}
 use mathlib.Core.Bool.{Bool, true, false, not}
-use mathlib.Core.List.{List, [], _++_}
+use mathlib.Core.List.{List, [], _∷_, _++_}
 use lib.ListN.{length}
 use lib.Dec.{eqb}
 use Rattle.keycode.specs.Tests.{pick}
@@ -16,7 +16,8 @@ use Rattle.bitcask.specs.declared.report.Counted.{Counted}
 use Rattle.bitcask.specs.compaction.Promises.{Compacts}
 use Rattle.mvcc.specs.declared.handle.Handle.{Handle}
 use Rattle.mvcc.specs.declared.begun.Begun.{Begun}
-use Rattle.isolation.specs.World.{World, Call, begins, beginsReading, beginsAsOf, gets, sets, deletes, scansPrefix, commits, rollsBack, counts, Step, usedBy, isDone}
+use Rattle.mvcc.specs.world.World.{World, Call, begins, beginsReading, beginsAsOf, gets, sets, deletes, scansPrefix, commits, rollsBack, counts}
+use Rattle.mvcc.specs.world.Steps.{Step, usedBy, isDone}
 use Rattle.tape.specs.declared.format.request.Request.{Request}
 use Rattle.tape.specs.format.Layout.{recordLen, laid, plainly}
 use Rattle.tape.specs.format.Requests.{fieldsOf, keyIn, valueIn, proper}
@@ -118,3 +119,9 @@ pub data Turned (b : Bench) (r : List ℕ) (room : ℕ) : Bench → List ℕ →
   short : eqb (length r) recordLen ≡ false → Turned b r room b (plainly 13 0)
   bad : eqb (length r) recordLen ≡ true → admitted r (b .slots) ≡ false → Turned b r room b (plainly 13 (fieldsOf r .command))
   good : {b′ : Bench} {x : List ℕ} → eqb (length r) recordLen ≡ true → admitted r (b .slots) ≡ true → Carried b (fieldsOf r) (keyIn r) (valueIn r) room b′ x → Turned b r room b′ x
+
+-- ---- a tape: records one after the other, each on what the last one left
+
+pub data Taped (room : ℕ) : Bench → List (List ℕ) → Bench → Type 0 where
+  over : {b : Bench} → Taped room b [] b
+  turned : {b b₁ b′ : Bench} {r x : List ℕ} {rs : List (List ℕ)} → Turned b r room b₁ x → Taped room b₁ rs b′ → Taped room b (r ∷ rs) b′

@@ -28,7 +28,7 @@ use mvcc::set;
 ghost use mathlib.Core.Path.{_≡_};
 ghost use Prim.Native.Nat.{_≤_, _<_};
 ghost use lib.ListN.{length};
-ghost use Rattle.isolation.specs.World.{Step, usedBy};
+ghost use Rattle.mvcc.specs.world.Steps.{Step, usedBy};
 ghost use Rattle.tape.specs.format.Layout.{recordLen};
 ghost use Rattle.tape.specs.format.Slots.{allWords};
 ghost use Rattle.tape.specs.Turns.{startCall, startUsed, writeCall, endCall, Started, Looked, Written, Ended, Tidied, Told, worldOf};

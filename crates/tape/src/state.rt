@@ -5,7 +5,7 @@ use bitcask::Used;
 use keycode::Refusal;
 ghost use mathlib.Core.Path.{_≡_};
 ghost use mathlib.Core.Bool.{false};
-ghost use Rattle.isolation.specs.World.{usedBy, isDone};
+ghost use Rattle.mvcc.specs.world.Steps.{usedBy, isDone};
 ghost use Rattle.tape.specs.format.Layout.{recordLen};
 
 // The used length, whether the second of the two lent buffers is the log, and how many bytes of answers were laid.

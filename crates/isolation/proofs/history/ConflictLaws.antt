@@ -9,7 +9,8 @@ use mathlib.Core.Option.{Option, none}
 use mathlib.Core.List.{List}
 use native.Mathlib.Decide.{ℕ-discrete, decLt}
 use Rattle.isolation.specs.history.History.{Key, Bytes}
-use Rattle.isolation.specs.history.History.{began, History, Status, unborn, opened, done, rolled, status, past, begins, isIn, Good, Clash, Late, keep, stored, below, upTo, Hidden, from, Peak, flat, peak-at}
+use Rattle.isolation.specs.history.History.{began, History, Status, unborn, opened, done, rolled, status, past, isIn, Clash, Late, keep, below, upTo}
+use Rattle.isolation.proofs.history.Standing.{begins, Good, stored, Hidden, from, Peak, flat, peak-at}
 use mathlib.Core.Bool.{not, _&&_}
 use lib.Dec.{leb}
 use borrow.Author.Tests.{le-leb, lt-leb}

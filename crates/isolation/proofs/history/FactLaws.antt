@@ -8,7 +8,9 @@ use mathlib.Core.Option.{none}
 use mathlib.Core.List.{_∷_}
 use native.Mathlib.Decide.{ℕ-discrete, decLe}
 use Rattle.isolation.specs.history.History.{Key}
-use Rattle.isolation.specs.history.History.{Event, began, wrote, committed, undone, History, unborn, opened, status, lastWrite, past, begins, Good, good-nil, good-cons, Guard, g-began, g-wrote, g-committed, g-undone, g-noted, After, now, later, ended}
+use Rattle.mvcc.specs.world.Runs.{After, now, later}
+use Rattle.isolation.specs.history.History.{Event, began, wrote, committed, undone, History, unborn, opened, status, lastWrite, past}
+use Rattle.isolation.proofs.history.Standing.{begins, Good, good-nil, good-cons, Guard, g-began, g-wrote, g-committed, g-undone, g-noted, ended}
 use Rattle.isolation.proofs.history.EventLaws.{status-began, status-began-other, status-wrote, status-noted, status-committed, status-committed-other, status-undone, status-undone-other, write-began, write-committed, write-undone, write-noted, write-other-txn, past-began, past-began-other, past-wrote, past-committed, past-undone, past-noted}
 
 pub nope {ℓ} : {C : Type ℓ} → _≡_ {A = ℕ} 0 1 → C

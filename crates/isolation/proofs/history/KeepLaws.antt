@@ -8,12 +8,13 @@ use mathlib.Core.Option.{Option, none, some}
 use mathlib.Core.List.{List, [], _∷_}
 use native.Mathlib.Decide.{ℕ-discrete}
 use Rattle.isolation.specs.history.History.{Key, Bytes, key≟}
-use Rattle.isolation.specs.history.History.{Sight, began, wrote, committed, undone, noted, History, Status, unborn, opened, done, rolled, status, lastWrite, past, begins, isIn, Good, Guard, g-began, isOpen, keep, stored}
+use Rattle.isolation.specs.history.History.{Sight, began, wrote, committed, undone, noted, History, Status, unborn, opened, done, rolled, status, lastWrite, past, isIn, isOpen, keep}
 use Rattle.isolation.proofs.history.EventLaws.{status-began, status-began-other, status-wrote, status-committed, status-committed-other, status-undone, status-undone-other, write-began, write-committed, write-undone, write-same, write-other-txn, write-other-key, past-began, past-began-other, past-wrote, past-committed, past-undone}
 use mathlib.Core.Bool.{not, _&&_}
 use Rattle.isolation.proofs.history.FactLaws.{nope, outside, unborn-writes}
 use Rattle.isolation.proofs.history.StoredLaws.{stored-began, stored-wrote, stored-wrote-txn, stored-wrote-key, stored-committed, stored-undone, stored-undone-other}
-use Rattle.isolation.specs.history.Store.{Db, kept, isSome, Empty, Begins, Writes, Commits, Undoes, Unseen, Rep}
+use Rattle.isolation.specs.history.Store.{Db, kept, isSome, Empty, Begins, Writes, Commits, Undoes, Unseen}
+use Rattle.isolation.proofs.history.Standing.{begins, Good, Guard, g-began, stored, Rep}
 
 is-open : (s : Status) → isOpen s ≡ true → s ≡ opened
 is-open unborn e = nope (cc)

@@ -7,21 +7,23 @@ use mathlib.Core.Logic.{_≢_, inr}
 use mathlib.Core.Option.{Option, none, some}
 use mathlib.Core.List.{List, [], _∷_}
 use Rattle.isolation.specs.history.History.{isOpen, Key, Bytes}
-use Rattle.isolation.specs.history.History.{Sight, began, noted, History, unborn, opened, done, status, lastWrite, past, begins, laid, over, isIn, Good, good-nil, good-cons, g-wrote, g-committed, g-undone, g-noted, After, now, later, Clash, keep, stored, Top, nowhere, below, upTo, lowest, from, Peak}
+use Rattle.mvcc.specs.world.Runs.{After, now, later}
+use Rattle.isolation.specs.history.History.{Sight, began, noted, History, unborn, opened, done, status, lastWrite, past, laid, over, isIn, Clash, keep, below, upTo, lowest}
 use mathlib.Core.Bool.{not, _&&_}
 use lib.Dec.{leb, ltb}
 use borrow.Author.Tests.{not-false, le-ltb, le-leb}
 use Rattle.isolation.proofs.history.FactLaws.{nope, outside, same, good-after, born, within, start}
 use Rattle.isolation.proofs.history.ViewLaws.{Given, given, past-is, low-of, reach-of, top-congr, top-unique, reader-top, writer-top, keep-none}
-use Rattle.isolation.specs.history.Store.{isSome, Rep}
+use Rattle.isolation.specs.history.Store.{isSome}
 use Prim.Native.Nat.{Ordering}
 use mathlib.Core.Bool.{cond}
 use lib.ListN.{length}
-use Rattle.isolation.specs.history.Store.{isSome, Rep}
+use Rattle.isolation.specs.history.Store.{isSome}
 use Rattle.keycode.specs.key.Keys.{Fields, nextVersion, txnActive, txnActiveSnapshot, version}
 use Rattle.isolation.specs.history.Records.{Rec, plainRec, Map, look, Sorted, sorted-nil, Order}
 use Rattle.isolation.specs.history.Calls.{nextOf, setOf, view, actives, beginHandle, writeMap, commitMap, rollbackMap, shown, conflict, visible, versionsOf, lastOf, lastVersion, searched}
 use Rattle.isolation.specs.history.Run.{Entry, beginE, readE, asOfE, writeE, commitE, rollbackE, otherE, Trace, event, events, Gave, by-begin, by-read, by-asOf, usable, pick, tooLong, writeNumber, wrote-map, Run, run-empty, do-begin, do-read, do-asOf, do-write, do-noroom, do-commit, do-rollback, do-plain, do-other}
+use Rattle.isolation.proofs.history.Standing.{begins, Good, good-nil, good-cons, g-wrote, g-committed, g-undone, g-noted, stored, Top, nowhere, from, Peak, Rep}
 use Rattle.isolation.proofs.history.ConflictLaws.{met, meant, peak-congr}
 use Rattle.isolation.proofs.history.KeepLaws.{keeps-empty, open-of, begin-guard, keeps-begin, keeps-write, keeps-commit, keeps-undo, keeps-noted, keeps-unseen}
 use Rattle.isolation.proofs.history.EffectLaws.{empty, plain-unseen, begins-map, writes, commits, undoes, sorted-begin, sorted-write}

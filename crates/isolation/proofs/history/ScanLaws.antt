@@ -16,8 +16,9 @@ use Rattle.isolation.specs.history.History.{Sight}
 use Rattle.isolation.specs.history.Calls.{itemOf, view}
 use Rattle.isolation.proofs.history.MapLaws.{look-here, look-past}
 use Rattle.isolation.specs.history.Calls.{versionsOf, lastOf, flat, hides, conflict}
-use Rattle.isolation.specs.history.History.{Peak, peak-at, Top, nowhere, top-at, upTo, Hidden}
-use Rattle.isolation.specs.history.History as Hs
+use Rattle.isolation.specs.history.History.{upTo}
+use Rattle.isolation.proofs.history.Standing as Hs
+use Rattle.isolation.proofs.history.Standing.{Peak, peak-at, Top, nowhere, top-at, Hidden}
 
 pub data LastIs (p : ℕ → Bool) (k : Key) (m : Map) (r : Option Rec) : Type 0 where
   last-none : ((x : ℕ) → p x ≡ true → look m (version k x) ≡ none) → r ≡ none → LastIs p k m r

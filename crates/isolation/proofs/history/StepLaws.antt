@@ -24,7 +24,7 @@ pub data Step (cmp : Fields → Fields → Ordering) (f : Key → Option Bytes) 
 pub data HasKey (k : Key) (m : Map) : Type 0 where
   has-key : (x : ℕ) (o : Option Bytes) → look m (version k x) ≡ some (verRec k x o) → HasKey k m
 
-shown-has : {cmp : Fields → Fields → Ordering} → Order cmp → {m : Map} → Sorted cmp m → (h : Sight) (k : Key) → shown m h k ≢ none → HasKey k m
+pub shown-has : {cmp : Fields → Fields → Ordering} → Order cmp → {m : Map} → Sorted cmp m → (h : Sight) (k : Key) → shown m h k ≢ none → HasKey k m
 unfolding shown
 shown-has L {m} s h k n = go (lastOf (versionsOf (visible h) k m)) n (last-is L (visible h) k s)
   where

@@ -8,7 +8,8 @@ use mathlib.Core.Option.{Option, none, some}
 use mathlib.Core.List.{_∷_}
 use native.Mathlib.Decide.{ℕ-discrete}
 use Rattle.isolation.specs.history.History.{Key, Bytes, key≟}
-use Rattle.isolation.specs.history.History.{Sight, Event, began, wrote, committed, undone, noted, History, Status, Status-discrete, unborn, opened, done, rolled, status, lastWrite, past, Good, good-nil, good-cons, Guard, g-began, g-wrote, g-committed, g-undone, g-noted, Clash, live, stored}
+use Rattle.isolation.specs.history.History.{Sight, Event, began, wrote, committed, undone, noted, History, Status, Status-discrete, unborn, opened, done, rolled, status, lastWrite, past, Clash}
+use Rattle.isolation.proofs.history.Standing.{Good, good-nil, good-cons, Guard, g-began, g-wrote, g-committed, g-undone, g-noted, live, stored}
 use Rattle.isolation.proofs.history.EventLaws.{status-began, status-began-other, status-wrote, status-noted, status-committed, status-committed-other, status-undone, status-undone-other, write-began, write-committed, write-undone, write-noted, write-same, write-other-txn, write-other-key, past-began-other, past-wrote, past-committed, past-undone, past-noted}
 use Rattle.isolation.proofs.history.FactLaws.{nope, outside, move, good-after, within, unborn-writes, Start, start}
 

@@ -8,7 +8,9 @@ use mathlib.Core.Option.{Option, none, some}
 use mathlib.Core.List.{List, [], _∷_}
 use native.Mathlib.Decide.{ℕ-discrete, decLt}
 use Rattle.isolation.specs.history.History.{Key, Bytes}
-use Rattle.isolation.specs.history.History.{Sight, Event, began, committed, undone, History, Status, Status-discrete, unborn, opened, done, rolled, status, lastWrite, past, begins, laid, over, isIn, Good, good-nil, good-cons, Guard, g-began, g-wrote, g-committed, g-undone, g-noted, After, now, later, isOpen, isDone, keep, stored, Top, nowhere, top-at, settled, below, upTo, Low, lowest}
+use Rattle.mvcc.specs.world.Runs.{After, now, later}
+use Rattle.isolation.specs.history.History.{Sight, Event, began, committed, undone, History, Status, Status-discrete, unborn, opened, done, rolled, status, lastWrite, past, laid, over, isIn, isOpen, keep, below, upTo, Low, lowest}
+use Rattle.isolation.proofs.history.Standing.{begins, Good, good-nil, good-cons, Guard, g-began, g-wrote, g-committed, g-undone, g-noted, isDone, stored, Top, nowhere, top-at, settled}
 use Rattle.isolation.proofs.history.EventLaws.{status-began, status-began-other, status-committed, status-committed-other, status-undone, status-undone-other, write-committed, past-began}
 use mathlib.Core.Bool.{not, _&&_}
 use borrow.Author.Tests.{lt-ltb, le-ltb, le-leb, lt-leb}

@@ -1,6 +1,6 @@
 -- What the transactions mean, from the calls made and the numbers answered alone: no word here of records, keys of the store or payloads.
 -- A history is the list of what happened, the latest first. Document 01's demand of snapshot isolation. Assumes nothing.
-use Prim.Native.Nat.{ℕ, suc, _≤_, _<_}
+use Prim.Native.Nat.{ℕ, suc, _≤_}
 use mathlib.Core.Path.{_≡_, refl}
 use mathlib.Core.Bool.{Bool, true, false, not, _&&_}
 use mathlib.Core.Logic.{_≢_, _⊎_, ite}
@@ -91,15 +91,6 @@ past (committed t ∷ H) v = past H v
 past (undone t ∷ H) v = past H v
 past (noted ∷ H) v = past H v
 
--- how many read-write transactions began
-unfoldable pub begins : History → ℕ
-begins [] = 0
-begins (began h ∷ H) = suc (begins H)
-begins (wrote t k o ∷ H) = begins H
-begins (committed t ∷ H) = begins H
-begins (undone t ∷ H) = begins H
-begins (noted ∷ H) = begins H
-
 -- x is open, or committed after transaction t began
 abbrev pub Late : History → ℕ → ℕ → Type 0
 Late H t x = (status H x ≡ opened) ⊎ ((status H x ≡ done) × (status (past H t) x ≢ done))
@@ -122,24 +113,6 @@ isOpen opened = true
 isOpen done = false
 isOpen rolled = false
 
-abbrev pub isDone : Status → Bool
-isDone unborn = false
-isDone opened = false
-isDone done = true
-isDone rolled = false
-
-abbrev pub live : Status → Bool
-live unborn = false
-live opened = true
-live done = true
-live rolled = false
-
-abbrev pub ended : Status → Bool
-ended unborn = false
-ended opened = false
-ended done = true
-ended rolled = true
-
 -- where a write's search starts: the lowest of the set, or the own version plus 1
 abbrev pub lowest : List ℕ → ℕ → ℕ
 lowest [] t = suc t
@@ -149,44 +122,9 @@ lowest (x ∷ xs) t = x
 abbrev pub Low : Sight → Type 0
 Low h = (x : ℕ) → isIn x (h .set) ≡ true → lowest (h .set) (h .ver) ≤ x
 
--- what the store's answers let happen after the history H
-pub data Guard (H : History) : Event → Type 0 where
-  g-began : {h : Sight} → h .ver ≡ suc (begins H) → ((x : ℕ) → isIn x (h .set) ≡ isOpen (status H x)) → Low h → Guard H (began h)
-  g-wrote : {t : ℕ} {k : Key} {o : Option Bytes} → status H t ≡ opened → ¬ Clash H t k → Guard H (wrote t k o)
-  g-committed : {t : ℕ} → status H t ≡ opened → Guard H (committed t)
-  g-undone : {t : ℕ} → status H t ≡ opened → Guard H (undone t)
-  g-noted : Guard H noted
-
-pub data Good : History → Type 0 where
-  good-nil : Good []
-  good-cons : {H : History} {e : Event} → Good H → Guard H e → Good (e ∷ H)
-
--- H1 is where the history H stood at some time
-pub data After {A : Type 0} (H1 : List A) : List A → Type 0 where
-  now : After H1 H1
-  later : {H : List A} {e : A} → After H1 H → After H1 (e ∷ H)
-
 abbrev pub keep {ℓ} : {A : Type ℓ} → Bool → Option A → Option A
 keep true x = x
 keep false x = none
-
--- r is the value at the highest number where f has one
-pub data Top (f : ℕ → Option (Option Bytes)) (r : Option Bytes) : Type 0 where
-  nowhere : ((x : ℕ) → f x ≡ none) → r ≡ none → Top f r
-  top-at : (x : ℕ) → f x ≡ some r → ((y : ℕ) → x < y → f y ≡ none) → Top f r
-
--- r is the highest number where f has a value
-pub data Peak (f : ℕ → Option (Option Bytes)) (r : Option ℕ) : Type 0 where
-  flat : ((x : ℕ) → f x ≡ none) → r ≡ none → Peak f r
-  peak-at : (x : ℕ) → r ≡ some x → f x ≢ none → ((y : ℕ) → x < y → f y ≡ none) → Peak f r
-
--- the Version record of key k at x, as the history has it
-abbrev pub stored : History → Key → ℕ → Option (Option Bytes)
-stored H k x = keep (live (status H x)) (lastWrite H x k)
-
--- the same of the committed transactions only
-abbrev pub settled : History → Key → ℕ → Option (Option Bytes)
-settled H k x = keep (isDone (status H x)) (lastWrite H x k)
 
 -- a reader's test: below its version, and not open when it began; a read-write handle sees its own version too
 abbrev pub below : ℕ → List ℕ → ℕ → Bool
@@ -194,11 +132,3 @@ below v S x = not (isIn x S) && ltb x v
 
 abbrev pub upTo : ℕ → List ℕ → ℕ → Bool
 upTo v S x = not (isIn x S) && leb x v
-
-abbrev pub from : ℕ → (ℕ → Option (Option Bytes)) → ℕ → Option (Option Bytes)
-from lo f x = keep (leb lo x) (f x)
-
--- what the search finds is not visible
-abbrev pub Hidden : ℕ → List ℕ → Option ℕ → Type 0
-Hidden t S none = ⊥
-Hidden t S (some w) = upTo t S w ≡ false

@@ -9,7 +9,8 @@ use lib.ListN.{length}
 use Rattle.keycode.specs.key.Keys.{Fields, nextVersion, txnActive, txnActiveSnapshot}
 use Rattle.isolation.specs.history.History.{Key, Bytes}
 use Rattle.isolation.specs.history.Records.{Map, look, put, plainRec}
-use Rattle.isolation.specs.history.History.{Sight, Event, began, wrote, committed, undone, noted, History, After}
+use Rattle.mvcc.specs.world.Runs.{After}
+use Rattle.isolation.specs.history.History.{Sight, Event, began, wrote, committed, undone, noted, History}
 use Rattle.isolation.specs.history.Store.{isSome}
 use Rattle.isolation.specs.history.Calls.{nextOf, setOf, actives, beginHandle, beginMap, writeMap, commitMap, rollbackMap, conflict, lastVersion}
 

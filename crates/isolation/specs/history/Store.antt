@@ -1,12 +1,12 @@
--- What the transactions read of the store, record by record, what each accepted call does to it, and that the store says of the
--- transactions what the history says. Document 01, 'Transactions'. Assumes nothing.
+-- What the transactions read of the store, record by record, and what each accepted call does to it. Document 01, 'Transactions'. Assumes
+-- nothing.
 use Prim.Native.Nat.{ℕ, suc}
 use mathlib.Core.Path.{_≡_}
-use mathlib.Core.Bool.{Bool, true, false, not, _&&_}
+use mathlib.Core.Bool.{Bool, true, false, not}
 use mathlib.Core.Logic.{_≢_}
 use mathlib.Core.Option.{Option, none, some}
 use mathlib.Core.List.{List, [], _∷_}
-use Rattle.isolation.specs.history.History.{Key, Bytes, Sight, History, status, lastWrite, past, begins, isIn, isOpen, keep, stored, unborn, Low}
+use Rattle.isolation.specs.history.History.{Key, Bytes, Sight, isIn, keep, Low}
 
 -- the next version; which versions are open; the set stored at a version's begin; which keys a version is recorded to have written; and what
 -- a version wrote of a key
@@ -82,12 +82,3 @@ pub record Unseen (d d′ : Db) : Type 0 where
   pub snap : (x : ℕ) → d′ .snap x ≡ d .snap x
   pub txw : (x : ℕ) (k : Key) → d′ .txw x k ≡ d .txw x k
   pub vers : (k : Key) (x : ℕ) → d′ .vers k x ≡ d .vers k x
-
--- the store says of the transactions what the history says
-pub record Rep (d : Db) (H : History) : Type 0 where
-  pub next : d .next ≡ suc (begins H)
-  pub act : (x : ℕ) → d .act x ≡ isOpen (status H x)
-  pub txw : (x : ℕ) (k : Key) → d .txw x k ≡ isOpen (status H x) && isSome (lastWrite H x k)
-  pub vers : (k : Key) (x : ℕ) → d .vers k x ≡ stored H k x
-  pub snap : (v : ℕ) → status H v ≢ unborn → (x : ℕ) → isIn x (d .snap v) ≡ isOpen (status (past H v) x)
-  pub snap-none : (v : ℕ) → status H v ≡ unborn → d .snap v ≡ []
