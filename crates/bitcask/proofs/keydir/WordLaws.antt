@@ -1,5 +1,5 @@
 -- Laws of words copied within a table, by any number w of words: a turn of each loop that moves or clears words, a run laid right before
--- another, and that a part of a table moved is one of the whole. Assumes nothing.
+-- another, and that a part of a table moved or cleared is one of the whole. Assumes nothing.
 use Prim.Native.Nat.{ℕ, zero, suc, _+_, _-_, _<_, _≤_}
 use mathlib.Core.Path.{_≡_, sym, ap, _∙_}
 use mathlib.Core.List.{List, [], _∷_, _++_, append-assoc, append-nil}
@@ -7,7 +7,7 @@ use native.Mathlib.Omega.{arith}
 use native.Mathlib.Nat.{add-assoc, zero-add, suc-add}
 use native.Mathlib.Numerals.{add-one}
 use borrow.Author.Fill.{fill-more}
-use lib.ListN.{length, take, drop, getD, set, replicate, length-append, length-take, length-drop, List·getD-append, drop-of-length-le, take-append-drop}
+use lib.ListN.{length, take, drop, getD, set, replicate, length-append, length-take, length-drop, length-replicate, List·getD-append, drop-of-length-le, take-append-drop}
 use lib.Seq.{drop-drop, take-add, take-all, take-nil, drop-nil, slice, slice-empty, slice-cons, take-suc, length-take-le, getD-take, getD-drop, getD-append-add, drop-append-le, length-slice, take-append-le, take-take, drop-at}
 use Rattle.keycode.specs.Buffer.{put}
 use Rattle.keycode.proofs.BufferLaws.{set-put, put-none, put-before, put-put, length-put}
@@ -131,7 +131,8 @@ unfolding copied
 copied-part l at f t g = rw (part-slice l at f t) (put-part l at g (slice (at + f) (at + t) l))
 
 -- what a call on the part from index at on leaves of the whole
-pub lent : (l : List ℕ) (at f t g : ℕ) {x : List ℕ} → x ≡ copied (take (length l - at) (drop at l)) f t g → take at l ++ (x ++ drop (length l - at) (drop at l)) ≡ copied l (at + f) (at + t) (at + g)
+pub lent : (l : List ℕ) (at f t g : ℕ) {x : List ℕ} → x ≡ copied (take (length l - at) (drop at l)) f t g
+    → take at l ++ (x ++ drop (length l - at) (drop at l)) ≡ copied l (at + f) (at + t) (at + g)
 lent l at f t g e =
     let n : length (drop at l) ≡ length l - at = length-drop at l in
     rw (e, take-all (length l - at) (drop at l) (omega arith), drop-of-length-le (drop at l) {i = length l - at} (omega arith), append-nil) (copied-part l at f t g)
@@ -150,3 +151,18 @@ shift-down-is l from to at h g e =
     let q : at + (from - at) ≡ from = omega arith in
     let r : at + (to - from + (from - at)) ≡ to = omega arith in
     lent l at (from - at) (to - from + (from - at)) 0 e ∙ rw (p, q, r)
+
+-- a part, cleared
+module _ (l : List ℕ) (at end : ℕ) (h : at ≤ end) (g : end ≤ length l) {x : List ℕ} (e : x ≡ replicate (length (take (end - at) (drop at l))) 0) where
+  pub cleared : take at l ++ (x ++ drop (end - at) (drop at l)) ≡ put l at (replicate (end - at) 0)
+  unfolding put
+  cleared =
+      let d : length (drop at l) ≡ length l - at = length-drop at l in
+      let n : length (take (end - at) (drop at l)) ≡ end - at = length-take-le (end - at) (drop at l) (omega arith) in
+      let r : length (replicate {A = ℕ} (end - at) 0) ≡ end - at = length-replicate (end - at) 0 in
+      rw (e, n, drop-drop (end - at) at l, r) (simp append-assoc)
+
+  pub cleared-long : length (take at l ++ (x ++ drop (end - at) (drop at l))) ≡ length l
+  cleared-long =
+      let r : length (replicate {A = ℕ} (end - at) 0) ≡ end - at = length-replicate (end - at) 0 in
+      ap length cleared ∙ length-put l at (replicate (end - at) 0) (omega arith)

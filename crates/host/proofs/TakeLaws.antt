@@ -1,4 +1,4 @@
--- Laws of one turn of opening, for any words: what its parts leave, by what the code has found and read. Assumes nothing.
+-- Laws of one entry of an opening, for any words: what its parts leave, by what the code has found and read. Assumes nothing.
 use Prim.Native.Nat.{ℕ, _+_, _/_, _≤_}
 use mathlib.Core.Path.{_≡_, refl, sym, ap, _∙_}
 use mathlib.Core.Bool.{Bool, true, false}
@@ -7,22 +7,22 @@ use mathlib.Core.List.{List}
 use native.Mathlib.Omega.{arith}
 use lib.Dec.{ltb}
 use lib.ListN.{length}
 use Rattle.bitcask.specs.declared.entry.read.Read.{Read}
 use Rattle.bitcask.specs.declared.entry.read.Read.the-variants.{Set, Del, Stop}
 use Rattle.bitcask.specs.entry.Reading.{entryAt}
 use Rattle.bitcask.proofs.entry.ReadingLaws.{entry-within}
 use Rattle.bitcask.specs.declared.keydir.slots.Slot.{Slot}
 use Rattle.bitcask.specs.declared.keydir.place.Found.{Found}
 use Rattle.bitcask.specs.declared.keydir.place.Found.the-variants.{At, Before}
 use Rattle.bitcask.specs.keydir.Slots.{slotWords, slotsOf, keyOf}
 use Rattle.bitcask.specs.keydir.Place.{placeOf, Among, putAt, cutAt, roomAt, entered, Becomes}
 use Rattle.bitcask.proofs.keydir.SlotLaws.{slots-length}
 use Rattle.bitcask.proofs.keydir.PlaceLaws.{place-among}
 use Rattle.bitcask.proofs.keydir.TableLaws.{entered-room}
-use Rattle.bitcask.specs.declared.recovery.Turn.{Turn}
-use Rattle.bitcask.specs.declared.recovery.Turn.the-variants.{Over, Full, Next}
+use Rattle.host.specs.declared.opening.Took.{Took}
+use Rattle.host.specs.declared.opening.Took.the-variants.{Over, Full, Next}
 use Rattle.bitcask.specs.recovery.Recover.{Item, roomFor, stepIn}
-use Rattle.bitcask.specs.recovery.Turns.{tried, Takes, Turns}
+use Rattle.host.specs.Taking.{tried, Takes, TakesEntry}
 
 -- ---- an entry, at the place that was found
 
@@ -66,7 +66,7 @@ module _ (log t : List ℕ) (n : ℕ) (s : Slot) {key : List ℕ} {f : Found} (e
         let p : entered t s f (slotsOf n t) ≡ putAt s f (slotsOf n t) = entered-room t s f (slotsOf n t) (same-room t f (slotsOf n t) ∙ room-is ∙ e) in
         takes-some log t n (record { slot = s; gone = false }) end q (rw p at w)
 
--- ---- a turn, by what was read
+-- ---- what stands at an offset, by what was read
 
 module _ (log : List ℕ) (used : ℕ) (t : List ℕ) (n at : ℕ) {e : Read} (er : e ≡ entryAt log used at) where
   module _ (h : at ≤ used) where
@@ -76,20 +76,20 @@ module _ (log : List ℕ) (used : ℕ) (t : List ℕ) (n at : ℕ) {e : Read} (e
     pub del-within : (k : ℕ) → e ≡ Del k → at + 8 + k ≤ used
     del-within k q = let w = entry-within log used at (sym er ∙ q) h in omega arith
 
-  pub turn-over : e ≡ Stop → Turns log used t n at Over t
-  turn-over q = let p : entryAt log used at ≡ Stop = sym er ∙ q in record { answer = rw p; words = rw p }
+  pub entry-over : e ≡ Stop → TakesEntry log used t n at Over t
+  entry-over q = let p : entryAt log used at ≡ Stop = sym er ∙ q in record { answer = rw p; words = rw p }
 
-  pub turn-set : (k v : ℕ) {s : Slot} {r : Turn} {t′ : List ℕ} → e ≡ Set k v → s ≡ record { place = at + 1; klen = k; vlen = v }
-      → Takes log t n (record { slot = s; gone = false }) (at + 8 + k + v) r t′ → Turns log used t n at r t′
-  turn-set k v q es w =
+  pub entry-set : (k v : ℕ) {s : Slot} {r : Took} {t′ : List ℕ} → e ≡ Set k v → s ≡ record { place = at + 1; klen = k; vlen = v }
+      → Takes log t n (record { slot = s; gone = false }) (at + 8 + k + v) r t′ → TakesEntry log used t n at r t′
+  entry-set k v q es w =
       let p : entryAt log used at ≡ Set k v = sym er ∙ q in
       let m : at + 8 + k + v ≡ at + 1 + 7 + k + v = omega arith in
       let x = rw (es, m) at w in
       record { answer = rw p (x .answer); words = rw p (x .words) }
 
-  pub turn-del : (k : ℕ) {s : Slot} {r : Turn} {t′ : List ℕ} → e ≡ Del k → s ≡ record { place = at + 1; klen = k; vlen = 0 }
-      → Takes log t n (record { slot = s; gone = true }) (at + 8 + k) r t′ → Turns log used t n at r t′
-  turn-del k q es w =
+  pub entry-del : (k : ℕ) {s : Slot} {r : Took} {t′ : List ℕ} → e ≡ Del k → s ≡ record { place = at + 1; klen = k; vlen = 0 }
+      → Takes log t n (record { slot = s; gone = true }) (at + 8 + k) r t′ → TakesEntry log used t n at r t′
+  entry-del k q es w =
       let p : entryAt log used at ≡ Del k = sym er ∙ q in
       let m : at + 8 + k ≡ at + 1 + 7 + k + 0 = omega arith in
       let x = rw (es, m) at w in

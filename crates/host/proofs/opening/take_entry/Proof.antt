@@ -1,11 +1,11 @@
--- `take_turn` does to the words what recovery's does. A whole entry lies within the used length, so its offset and lengths fit a slot's
+-- `take_entry` does to the words what recovery's does. A whole entry lies within the used length, so its offset and lengths fit a slot's
 -- words.
-use Rattle.bitcask.proofs.recovery.TurnLaws.{set-within, del-within, turn-over, turn-set, turn-del}
+use Rattle.host.proofs.TakeLaws.{set-within, del-within, entry-over, entry-set, entry-del}
 use Rattle.host.specs.Table.{wordsIn}
 use borrow.Author.Needs.{needs}
 use native.Mathlib.Omega.{arith}
-use Rattle.host.proofs.opening.take_turn.Statement.{statement}
-use Rattle.host.proofs.opening.take_turn.Tie as tie
+use Rattle.host.proofs.opening.take_entry.Statement.{statement}
+use Rattle.host.proofs.opening.take_entry.Tie as tie
 
 slot-for-requires : tie.Need-slot-for-requires
 slot-for-requires c κs = let a = c .before .before .before .before .before .before .args in omega (arith, set-within (a .log .now) (a .used) (wordsIn (a .table .now)) (a .count) (a .at) (c .before .before .before .entry-at .ensures) (c .before .before .before .before .before .before .pre .0) _ _ (c .before .e .given .1))
@@ -23,16 +23,16 @@ add-take-del-2 : tie.Need-add-take-del-2
 add-take-del-2 c = let a = c .before .before .before .before .before .before .before .before .args in omega (arith, del-within (a .log .now) (a .used) (wordsIn (a .table .now)) (a .count) (a .at) (c .before .before .before .before .before .entry-at .ensures) (c .before .before .before .before .before .before .before .before .pre .0) _ (c .before .before .before .e2 .given .1))
 
 returns : tie.Need-returns
-returns c = let a = c .before .before .before .before .before .before .before .before .before .before .before .args in turn-set (a .log .now) (a .used) (wordsIn (a .table .now)) (a .count) (a .at) (c .before .before .before .before .before .before .before .before .entry-at .ensures) _ _ (c .before .before .before .before .before .before .e .given .1) (c .before .before .before .before .slot-for .ensures) (c .before .before .take-set .ensures)
+returns c = let a = c .before .before .before .before .before .before .before .before .before .before .before .args in entry-set (a .log .now) (a .used) (wordsIn (a .table .now)) (a .count) (a .at) (c .before .before .before .before .before .before .before .before .entry-at .ensures) _ _ (c .before .before .before .before .before .before .e .given .1) (c .before .before .before .before .slot-for .ensures) (c .before .before .take-set .ensures)
 
 returns-2 : tie.Need-returns-2
-returns-2 c = let a = c .before .before .before .before .before .before .before .before .before .before .before .args in turn-del (a .log .now) (a .used) (wordsIn (a .table .now)) (a .count) (a .at) (c .before .before .before .before .before .before .before .before .entry-at .ensures) _ (c .before .before .before .before .before .before .e2 .given .1) (c .before .before .before .before .slot-for2 .ensures) (c .before .before .take-del .ensures)
+returns-2 c = let a = c .before .before .before .before .before .before .before .before .before .before .before .args in entry-del (a .log .now) (a .used) (wordsIn (a .table .now)) (a .count) (a .at) (c .before .before .before .before .before .before .before .before .entry-at .ensures) _ (c .before .before .before .before .before .before .e2 .given .1) (c .before .before .before .before .slot-for2 .ensures) (c .before .before .take-del .ensures)
 
 returns-3 : tie.Need-returns-3
-returns-3 c = let a = c .before .before .before .before .before .args in turn-over (a .log .now) (a .used) (wordsIn (a .table .now)) (a .count) (a .at) (c .before .before .entry-at .ensures) (c .enum-told .given .1)
+returns-3 c = let a = c .before .before .before .before .before .args in entry-over (a .log .now) (a .used) (wordsIn (a .table .now)) (a .count) (a .at) (c .before .before .entry-at .ensures) (c .enum-told .given .1)
 
-pub take-turn-spec : {M : Type 1} → statement M
-take-turn-spec =
+pub take-entry-spec : {M : Type 1} → statement M
+take-entry-spec =
     tie.close
     (tie.spec
     (λ c κs. search needs)
