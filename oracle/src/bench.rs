@@ -6,7 +6,7 @@ use std::io::Write as _;
 use std::process::{Command, Stdio};
 
 use crate::plot::{Line, plot};
-use crate::rows::{Row, rows};
+use crate::rows::{Before, Row, rows};
 use crate::timing::{Request, request};
 
 /// Runs of each measurement; the shortest counts.
@@ -93,7 +93,7 @@ struct Cost {
 const LEAST_SECONDS: f64 = 0.002;
 
 /// What a process costs that makes no call, by its side, the log and what begins before: the same for many rows.
-type Bases = HashMap<(&'static str, &'static str, u64, bool, u64), (f64, Option<f64>)>;
+type Bases = HashMap<(&'static str, &'static str, u64, Before, u64), (f64, Option<f64>)>;
 
 fn cost(side: &Side, row: &Row, bases: &mut Bases) -> Cost {
     let input = |times: u64| {
@@ -101,7 +101,7 @@ fn cost(side: &Side, row: &Row, bases: &mut Bases) -> Cost {
         request(&Request { call, times, others, keys, shared, absent }, &row.log)
     };
     let first = || (shortest(side, &input(0)).0, instructions(side, &input(0)));
-    let (base, counted) = *bases.entry((side.name, row.what, row.keys, row.begins(), row.others)).or_insert_with(first);
+    let (base, counted) = *bases.entry((side.name, row.what, row.keys, row.before(), row.others)).or_insert_with(first);
     let (long, sum) = shortest(side, &input(row.times));
     let instructions = counted.zip(instructions(side, &input(row.counted)));
     Cost {

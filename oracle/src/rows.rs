@@ -17,15 +17,26 @@ pub struct Row {
     pub counted: u64,
 }
 
+/// What is done before the calls that are counted. (Ours and the plain version open the log before every call.)
+#[derive(Clone, Copy, PartialEq, Eq, Hash)]
+pub enum Before {
+    Nothing,
+    Opening,
+    Begin,
+}
+
 impl Row {
     /// Calls in one of those: a compaction is made twice a turn.
     pub fn calls(&self) -> f64 {
         if self.call == 6 { 2.0 } else { 1.0 }
     }
 
-    /// Whether a transaction begins before the calls.
-    pub fn begins(&self) -> bool {
-        matches!(self.call, 4 | 5 | 7 | 8)
+    pub fn before(&self) -> Before {
+        match self.call {
+            1 => Before::Nothing,
+            2 | 3 | 6 => Before::Opening,
+            _ => Before::Begin,
+        }
     }
 }
 
@@ -34,7 +45,7 @@ fn times(call: u64, keys: u64) -> (u64, u64) {
         "get" => (100_000, 1_000),
         "set" | "commit, a write" => (1_000, 1_000),
         "full scan" => (1_000_000 / keys, 1),
-        _ => (200_000 / keys, 1),
+        _ => (400_000 / keys, 1),
     }
 }
 
