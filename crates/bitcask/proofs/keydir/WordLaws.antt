@@ -101,6 +101,10 @@ module _ (w : ℕ) (l : List ℕ) where
   pub down-turn : (x : List ℕ) (f j : ℕ) → x ≡ copied l (f + w) (j + w) f → f ≤ j → j + w < length l → set x j (getD x (j + w) 0) ≡ copied l (f + w) (j + 1 + w) f
   down-turn x f j e h k = rw e (down-more f j h k)
 
+  -- a run by its ends
+  pub down-at : (x : List ℕ) (j g f t : ℕ) → x ≡ copied l (g + w) (j + w) g → g + w ≡ f → j + w ≡ t → x ≡ copied l f t g
+  down-at x j g f t e p q = e ∙ rw (p, q)
+
   pub up-end : (x : List ℕ) (j t : ℕ) → x ≡ copied l j t (j + w) → j ≤ 0 → x ≡ copied l 0 t w
   up-end x j t e h =
       let p : j ≡ 0 = omega arith in
@@ -137,20 +141,18 @@ lent l at f t g e =
     let n : length (drop at l) ≡ length l - at = length-drop at l in
     rw (e, take-all (length l - at) (drop at l) (omega arith), drop-of-length-le (drop at l) {i = length l - at} (omega arith), append-nil) (copied-part l at f t g)
 
-pub shift-up-is : (l : List ℕ) (from to by : ℕ) → from ≤ to → {x : List ℕ} → x ≡ copied (take (length l - from) (drop from l)) 0 (to - from) by
-    → take from l ++ (x ++ drop (length l - from) (drop from l)) ≡ copied l from to (from + by)
-shift-up-is l from to by h e =
-    let p : from + 0 ≡ from = omega arith in
-    let q : from + (to - from) ≡ to = omega arith in
-    lent l from 0 (to - from) by e ∙ rw (p, q)
+module _ (w : ℕ) (l : List ℕ) (at to : ℕ) (h : at ≤ to) where
+  pub shift-up-is : {x : List ℕ} → x ≡ copied (take (length l - at) (drop at l)) 0 (to - at) w → take at l ++ (x ++ drop (length l - at) (drop at l)) ≡ copied l at to (at + w)
+  shift-up-is e =
+      let p : at + 0 ≡ at = omega arith in
+      let q : at + (to - at) ≡ to = omega arith in
+      lent l at 0 (to - at) w e ∙ rw (p, q)
 
-pub shift-down-is : (l : List ℕ) (from to at : ℕ) → at ≤ from → from ≤ to → {x : List ℕ} → x ≡ copied (take (length l - at) (drop at l)) (from - at) (to - from + (from - at)) 0
-    → take at l ++ (x ++ drop (length l - at) (drop at l)) ≡ copied l from to at
-shift-down-is l from to at h g e =
-    let p : at + 0 ≡ at = omega arith in
-    let q : at + (from - at) ≡ from = omega arith in
-    let r : at + (to - from + (from - at)) ≡ to = omega arith in
-    lent l at (from - at) (to - from + (from - at)) 0 e ∙ rw (p, q, r)
+  pub shift-down-is : {x : List ℕ} → x ≡ copied (take (length l - at) (drop at l)) w (to - at + w) 0 → take at l ++ (x ++ drop (length l - at) (drop at l)) ≡ copied l (at + w) (to + w) at
+  shift-down-is e =
+      let p : at + 0 ≡ at = omega arith in
+      let q : at + (to - at + w) ≡ to + w = omega arith in
+      lent l at w (to - at + w) 0 e ∙ rw (p, q)
 
 -- a part, cleared
 module _ (l : List ℕ) (at end : ℕ) (h : at ≤ end) (g : end ≤ length l) {x : List ℕ} (e : x ≡ replicate (length (take (end - at) (drop at l))) 0) where

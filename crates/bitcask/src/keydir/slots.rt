@@ -49,7 +49,7 @@ pub(crate) fn insert(table: &mut [u32], count: usize, i: usize, s: Slot)
     ensures { λ _. ⌜ now (table .exit) ≡ wordsOf (insertAt i s (slotsOf count (now (table .entry)))) ++ drop (slotWords * count + slotWords) (now (table .entry)) ⌝ }
 {
     let at = SLOT_WORDS * i;
-    shift_up(table, at, SLOT_WORDS * count, SLOT_WORDS);
+    shift_up(table, at, SLOT_WORDS * count);
     store(table, at, s);
 }
 
@@ -66,9 +66,8 @@ pub(crate) fn remove(table: &mut [u32], count: usize, i: usize)
     requires { ⌜ (i < count) × (slotWords * count ≤ length (now table)) ⌝ }
     ensures { λ _. ⌜ now (table .exit) ≡ wordsOf (removeAt i (slotsOf count (now (table .entry)))) ++ (replicate slotWords 0 ++ drop (slotWords * count) (now (table .entry))) ⌝ }
 {
-    let at = SLOT_WORDS * i;
     let last = SLOT_WORDS * (count - 1);
-    shift_down(table, at + SLOT_WORDS, last + SLOT_WORDS, at);
+    shift_down(table, SLOT_WORDS * i, last);
     let free = Slot {
         place: 0,
         klen: 0,

@@ -1,7 +1,9 @@
-// Words of a table moved up or down by any number of words, and all of them cleared.
+// Words of a table moved by the width of a slot, and all of them cleared.
+use crate::keydir::slots::SLOT_WORDS;
 ghost use mathlib.Core.Path.{_≡_};
 ghost use Prim.Native.Nat.{_+_, _≤_};
 ghost use lib.ListN.{length, replicate};
+ghost use Rattle.bitcask.specs.keydir.Slots.{slotWords};
 ghost use Rattle.bitcask.specs.keydir.Words.{copied};
 
 // The first n words `by` words up. From the last to the first, so that none is lost.
@@ -28,24 +30,21 @@ fn move_down(t: &mut [u32], n: usize, by: usize)
     }
 }
 
-// The words from `from` to `to` up by `by`. A loop over a part, from its front on, is what a compiler takes for one move where it knows
-// the distance.
-pub(crate) fn shift_up(table: &mut [u32], from: usize, to: usize, by: usize)
-    requires { ⌜ (from ≤ to) × (to + by ≤ length (now table)) ⌝ }
-    ensures { λ _. ⌜ now (table .exit) ≡ copied (now (table .entry)) from to (from + by) ⌝ }
+// The words from `from` to `to` one slot up. A loop over a part, from its front on, by a distance that all its callers share, is what a
+// compiler takes for one move.
+pub(crate) fn shift_up(table: &mut [u32], from: usize, to: usize)
+    requires { ⌜ (from ≤ to) × (to + slotWords ≤ length (now table)) ⌝ }
+    ensures { λ _. ⌜ now (table .exit) ≡ copied (now (table .entry)) from to (from + slotWords) ⌝ }
 {
-    move_up(&mut table[from..], to - from, by);
+    move_up(&mut table[from..], to - from, SLOT_WORDS);
 }
 
-// The words from `from` to `to` down to `at`. Words that stand there already are not touched.
-pub(crate) fn shift_down(table: &mut [u32], from: usize, to: usize, at: usize)
-    requires { ⌜ (at ≤ from) × (from ≤ to) × (to ≤ length (now table)) ⌝ }
-    ensures { λ _. ⌜ now (table .exit) ≡ copied (now (table .entry)) from to at ⌝ }
+// The words of the slots behind `from`, up to the slot at `to`, one slot down.
+pub(crate) fn shift_down(table: &mut [u32], from: usize, to: usize)
+    requires { ⌜ (from ≤ to) × (to + slotWords ≤ length (now table)) ⌝ }
+    ensures { λ _. ⌜ now (table .exit) ≡ copied (now (table .entry)) (from + slotWords) (to + slotWords) from ⌝ }
 {
-    if from <= at {
-        return;
-    }
-    move_down(&mut table[at..], to - from, from - at);
+    move_down(&mut table[from..], to - from, SLOT_WORDS);
 }
 
 // Every word 0.

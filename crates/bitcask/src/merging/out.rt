@@ -6,7 +6,7 @@ use crate::keydir::find;
 use crate::keydir::key_of;
 use crate::keydir::slot_at;
 use crate::keydir::words::clear;
-use crate::keydir::words::shift_down;
+use crate::merging::moves::move_down;
 ghost use Prim.Native.Nat.{_+_, _-_, _*_, _≤_};
 ghost use lib.ListN.{length};
 ghost use Rattle.bitcask.specs.keydir.Slots.{slotWords, slotsOf};
@@ -26,7 +26,7 @@ fn take_one(log: &[u8], table: &mut [u32], count: usize, gap: Gap, key: &[u8]) -
     let found = find(log, &table[start..], count - gap.from, key);
     match found {
         Found::At(j) => {
-            shift_down(table, start, start + SLOT_WORDS * j, SLOT_WORDS * gap.to);
+            move_down(table, start, start + SLOT_WORDS * j, SLOT_WORDS * gap.to);
             Gap {
                 to: gap.to + j,
                 from: gap.from + j + 1,
@@ -58,7 +58,7 @@ pub(crate) fn take_all(
         p += 1;
     }
     let end = SLOT_WORDS * count;
-    shift_down(table, SLOT_WORDS * from, end, SLOT_WORDS * to);
+    move_down(table, SLOT_WORDS * from, end, SLOT_WORDS * to);
     let left = to + (count - from);
     let free = SLOT_WORDS * left;
     clear(&mut table[free..end]);

@@ -7,7 +7,7 @@ use crate::keydir::find;
 use crate::keydir::key_of;
 use crate::keydir::slot_at;
 use crate::keydir::slots::store;
-use crate::keydir::words::shift_up;
+use crate::merging::moves::move_up;
 ghost use mathlib.Core.Bool.{false};
 ghost use mathlib.Core.Path.{_≡_};
 ghost use Prim.Native.Nat.{_+_, _-_, _*_, _≤_, _<_};
@@ -73,7 +73,7 @@ fn put_one(log: &[u8], table: &mut [u32], end: usize, left: usize, s: Slot) -> u
 {
     let found = find(log, table, end, key_of(log, s));
     let j = index_of(found);
-    shift_up(table, SLOT_WORDS * j, SLOT_WORDS * end, SLOT_WORDS * left);
+    move_up(table, SLOT_WORDS * j, SLOT_WORDS * end, SLOT_WORDS * left);
     store(table, SLOT_WORDS * (j + left - 1), s);
     j
 }

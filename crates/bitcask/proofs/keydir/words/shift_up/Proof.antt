@@ -1,4 +1,5 @@
--- `shift_up` copies words up.
+-- `shift_up` copies words one slot up.
+use Rattle.bitcask.specs.keydir.Slots.{slotWords}
 use Rattle.bitcask.proofs.keydir.WordLaws.{shift-up-is}
 use borrow.Author.Needs.{needs}
 use Rattle.bitcask.proofs.keydir.words.shift_up.Statement.{statement}
@@ -6,8 +7,9 @@ use Rattle.bitcask.proofs.keydir.words.shift_up.Tie as tie
 
 returns : tie.Need-returns
 returns c =
-    let a = c .before .before .before .before .before .args in
-    shift-up-is (a .table .now) (a .from) (a .to) (a .by) (c .before .before .before .before .before .pre .0) (c .before .before .move-up .ensures)
+    let s = c .before .before .before .before .before in
+    let a = s .args in
+    shift-up-is slotWords (a .table .now) (a .from) (a .to) (s .pre .0) (c .before .before .move-up .ensures)
 
 pub shift-up-spec : {M : Type 1} → statement M
 shift-up-spec =

@@ -31,14 +31,14 @@ loop-again c =
     (c .before .before .before .before .before .slot-at .ensures ∙ slot-at-is (a .waiting) (a .pend .now) (l .p) (omega arith))
     (c .before .before .before .key-of .ensures) (c .before .before .take-one .ensures)
 
-mul-shift-down : tie.Need-mul-shift-down Inv-loop μ-loop
-mul-shift-down c = let w = c .before .before .loop .inv in omega (arith, w .within, w .order)
+mul-move-down : tie.Need-mul-move-down Inv-loop μ-loop
+mul-move-down c = let w = c .before .before .loop .inv in omega (arith, w .within, w .order)
 
-mul-shift-down-2 : tie.Need-mul-shift-down-2 Inv-loop μ-loop
-mul-shift-down-2 c = let w = c .before .before .loop .inv in omega (arith, w .within, w .order)
+mul-move-down-2 : tie.Need-mul-move-down-2 Inv-loop μ-loop
+mul-move-down-2 c = let w = c .before .before .loop .inv in omega (arith, w .within, w .order)
 
-shift-down-requires : tie.Need-shift-down-requires Inv-loop μ-loop
-shift-down-requires c κs = let w = c .before .before .loop .inv in (omega (arith, w .order), omega (arith, w .within), omega (arith, w .long))
+move-down-requires : tie.Need-move-down-requires Inv-loop μ-loop
+move-down-requires c κs = let w = c .before .before .loop .inv in (omega (arith, w .order), omega (arith, w .within), omega (arith, w .long))
 
 sub-left : tie.Need-sub-left Inv-loop μ-loop
 sub-left c = let w = c .before .before .before .before .before .loop .inv in omega (arith, w .within, w .order)
@@ -59,13 +59,13 @@ part-clear-start : tie.Need-part-clear-start Inv-loop μ-loop
 part-clear-start c = let w = c .before .before .before .before .before .loop .inv in omega (arith, w .within, w .order)
 
 part-clear-end : tie.Need-part-clear-end Inv-loop μ-loop
-part-clear-end c = let w = c .before .before .before .before .before .loop .inv in omega (arith, w .long, c .before .before .shift-down .kept .0)
+part-clear-end c = let w = c .before .before .before .before .before .loop .inv in omega (arith, w .long, c .before .before .move-down .kept .0)
 
 same-length : tie.Need-same-length Inv-loop μ-loop
 same-length c =
     let l = c .before .before .before .before .before .before .before .before .before .loop in
     let w = l .inv in
-    let m = c .before .before .before .before .before .before .shift-down in
+    let m = c .before .before .before .before .before .before .move-down in
     let n = c .before .before .before .before .before .before .before .before .before .before .before .before .before .args .count in
     cleared-long (m .last .0) (slotWords * (l .to + (n - l .from))) (slotWords * n) (omega (arith, w .within, w .order)) (omega (arith, w .long, m .kept .0))
     (c .before .before .clear .ensures) ∙ m .kept .0 ∙ w .long
@@ -73,7 +73,7 @@ same-length c =
 returns : tie.Need-returns Inv-loop μ-loop
 returns c =
     let w = c .before .before .before .before .before .before .before .before .before .loop .inv in
-    let m = c .before .before .before .before .before .before .shift-down in
+    let m = c .before .before .before .before .before .before .move-down in
     let s = c .before .before .before .before .before .before .before .before .before .before .before .before .before in
     taking-end w (s .pre .0) (omega (arith, slots-length (s .args .waiting) (s .args .pend .now)))
     (m .ensures) (cleared (m .last .0) _ _ (omega (arith, w .within, w .order)) (omega (arith, w .long, m .kept .0)) (c .before .before .clear .ensures))
@@ -92,9 +92,9 @@ take-all-spec =
     (λ c. omega arith)
     loop-again
     (λ c. omega arith)
-    mul-shift-down
-    mul-shift-down-2
-    shift-down-requires
+    mul-move-down
+    mul-move-down-2
+    move-down-requires
     sub-left
     add-left
     mul-free

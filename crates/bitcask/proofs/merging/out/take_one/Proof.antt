@@ -5,8 +5,8 @@ use borrow.Author.Needs.{needs}
 use Rattle.bitcask.proofs.merging.out.take_one.Statement.{statement}
 use Rattle.bitcask.proofs.merging.out.take_one.Tie as tie
 
-mul-shift-down : tie.Need-mul-shift-down
-mul-shift-down c =
+mul-move-down : tie.Need-mul-move-down
+mul-move-down c =
     let s = c .before .before .before .before .before .before .before .before .before .before .before .before in
     let a = s .args in
     omega (
@@ -15,8 +15,8 @@ mul-shift-down c =
           (a .log .now) (a .table .now) (a .count) (a .gap .from) (a .key .now) (c .before .before .before .before .find .ensures)) _ (c .before .before .found .given .1),
     )
 
-add-shift-down : tie.Need-add-shift-down
-add-shift-down c =
+add-move-down : tie.Need-add-move-down
+add-move-down c =
     let s = c .before .before .before .before .before .before .before .before .before .before .before .before in
     let a = s .args in
     omega (
@@ -25,8 +25,8 @@ add-shift-down c =
           (a .log .now) (a .table .now) (a .count) (a .gap .from) (a .key .now) (c .before .before .before .before .find .ensures)) _ (c .before .before .found .given .1),
     )
 
-shift-down-requires : tie.Need-shift-down-requires
-shift-down-requires c κs =
+move-down-requires : tie.Need-move-down-requires
+move-down-requires c κs =
     let s = c .before .before .before .before .before .before .before .before .before .before .before .before .before in
     let a = s .args in
     let h = one-within (a .log .now) (a .table .now) (a .count) (a .gap .to) (a .gap .from) (a .key .now) (s .pre .0) (s .pre .1) (s .pre .2) (part-place (a .log .now)
@@ -74,7 +74,7 @@ returns c =
     let a = s .args in
     one-takes (a .log .now) (a .table .now) (a .count) (a .gap .to) (a .gap .from) (a .key .now) (s .pre .0) (s .pre .1) (s .pre .2) (part-place (a .log .now)
     (a .table .now) (a .count) (a .gap .from) (a .key .now) (c .before .before .before .before .before .before .before .before .before .before .find .ensures)) _
-    (c .before .before .before .before .before .before .before .before .found .given .1) (c .before .before .before .before .shift-down .ensures)
+    (c .before .before .before .before .before .before .before .before .found .given .1) (c .before .before .before .before .move-down .ensures)
 
 returns-2 : tie.Need-returns-2
 returns-2 c =
@@ -95,10 +95,10 @@ take-one-spec =
     (λ c. search needs)
     (λ c κs. search needs)
     (λ c. search needs)
-    mul-shift-down
-    add-shift-down
+    mul-move-down
+    add-move-down
     (λ c. search needs)
-    shift-down-requires
+    move-down-requires
     add-t19
     add-t21
     add-t20

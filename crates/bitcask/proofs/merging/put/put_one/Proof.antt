@@ -5,8 +5,8 @@ use borrow.Author.Needs.{needs}
 use Rattle.bitcask.proofs.merging.put.put_one.Statement.{statement}
 use Rattle.bitcask.proofs.merging.put.put_one.Tie as tie
 
-mul-shift-up : tie.Need-mul-shift-up
-mul-shift-up c =
+mul-move-up : tie.Need-mul-move-up
+mul-move-up c =
     let s = c .before .before .before .before .before .before .before in
     let a = s .args in
     omega (
@@ -15,8 +15,8 @@ mul-shift-up c =
           (c .before .before .find .ensures) (c .before .index-of .ensures),
     )
 
-shift-up-requires : tie.Need-shift-up-requires
-shift-up-requires c κs =
+move-up-requires : tie.Need-move-up-requires
+move-up-requires c κs =
     let s = c .before .before .before .before .before .before .before in
     let a = s .args in
     let h = next-within (a .log .now) (a .table .now) (a .end) (a .left) (a .s) (s .pre .0) (s .pre .1) (s .pre .2) (c .before .before .before .key-of .ensures)
@@ -51,7 +51,7 @@ store-requires c κs =
     let a = s .args in
     omega (
       arith,
-      c .before .before .before .shift-up .kept .0,
+      c .before .before .before .move-up .kept .0,
       next-within (a .log .now) (a .table .now) (a .end) (a .left) (a .s) (s .pre .0) (s .pre .1) (s .pre .2)
           (c .before .before .before .before .before .before .before .key-of .ensures) (c .before .before .before .before .before .before .find .ensures)
           (c .before .before .before .before .before .index-of .ensures),
@@ -64,7 +64,7 @@ returns c =
     next-puts (a .log .now) (a .table .now) (a .end) (a .left) (a .s) (s .pre .0) (s .pre .1) (s .pre .2)
     (c .before .before .before .before .before .before .before .before .before .before .key-of .ensures)
     (c .before .before .before .before .before .before .before .before .before .find .ensures)
-    (c .before .before .before .before .before .before .before .before .index-of .ensures) (c .before .before .before .before .before .before .shift-up .ensures)
+    (c .before .before .before .before .before .before .before .before .index-of .ensures) (c .before .before .before .before .before .before .move-up .ensures)
     (c .before .before .store .ensures)
 
 pub put-one-spec : {M : Type 1} → statement M
@@ -74,10 +74,10 @@ put-one-spec =
     (λ c κs. search needs)
     (λ c κs. search needs)
     (λ c κs. search needs)
-    mul-shift-up
+    mul-move-up
     (λ c. search needs)
     (λ c. search needs)
-    shift-up-requires
+    move-up-requires
     add-store
     (λ c. search needs)
     mul-store
