@@ -55,7 +55,9 @@ uint64_t tjaldrum_unescape(const uint8_t *escaped, size_t escaped_len, uint8_t *
  * in byte order of the keys; every byte past them is 0. What the table held before does not matter. The length is the used length that
  * is left: `used`, or the start of the first entry that runs past it.
  * 13 if the log is longer than 16,777,216 bytes, `used` is over its length, or the table's length is no multiple of twelve; then 8 at
- * the first entry whose new key finds no free slot. With either every byte of the table is 0. */
+ * the first entry whose new key finds no free slot. With either every byte of the table is 0.
+ * A new key's slot is moved into its place when its entry is met: keys in order take time with the log's length, keys in no order, and logs
+ * with many deleted keys, in the square of the number of keys. */
 uint64_t tjaldrum_open(const uint8_t *log, size_t log_len, size_t used, uint8_t *table, size_t table_len);
 
 #endif

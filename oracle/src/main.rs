@@ -5,7 +5,7 @@
 //!   oracle record lines         a sample of scripts
 //!   oracle record answers       the same with toydb's answers
 //!   oracle timing SIDE          the calls of a bench request on standard input: SIDE is plain or toydb
-//!   oracle bench PROGRAM        the bench: the program of crate timing beside the Rust
+//!   oracle bench PROGRAM [WORD]  the bench: crate timing under the program PROGRAM (lend.rs) beside the Rust; rows with a word alone
 //!   oracle tapes BENCH N        N tapes of every kind, on toydb and on the program BENCH
 //!   oracle calls PROGRAM N      N scripts of every kind, on toydb and on the program PROGRAM
 //!   oracle host DRIVER N        keys and logs, all small ones and N seeds, on toydb and through the program DRIVER (host/driver.c)
@@ -25,9 +25,11 @@ mod listed;
 mod logs;
 mod ours;
 mod plain;
+mod plot;
 mod random;
 mod record;
 mod report;
+mod rows;
 mod script;
 mod spell;
 mod steps;
@@ -78,7 +80,7 @@ fn main() {
         Some("script") => run_script(),
         Some("record") if args.len() == 2 => record::record(args[1] == "answers"),
         Some("timing") if args.len() == 2 => timing::run(&args[1]),
-        Some("bench") if args.len() == 2 => bench::bench(&args[1]),
+        Some("bench") if args.len() >= 2 => bench::bench(&args[1], args.get(2)),
         Some("tapes") if args.len() == 3 => compare_tapes::compare(&args[1], number(2).expect("a number")),
         Some("calls") if args.len() == 3 => compare_calls::compare(&args[1], number(2).expect("a number")),
         Some("host") if args.len() == 3 => compare_host::compare(&args[1], number(2).expect("a number")),

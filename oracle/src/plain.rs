@@ -1,7 +1,7 @@
 //! A plain in-memory version for the bench: the same log format and the same records over a sorted map of keys, as one would write it in Rust
 //! with no limits and no damage in mind. It is compared with the others by the sums that the bench makes.
 
-use std::collections::BTreeMap;
+use std::collections::{BTreeMap, BTreeSet};
 use std::ops::Range;
 
 pub struct Plain {
@@ -40,6 +40,23 @@ fn write_key(version: u64, key: &[u8]) -> Vec<u8> {
 
 fn active_key(version: u64) -> Vec<u8> {
     [&[1], version.to_be_bytes().as_slice()].concat()
+}
+
+/// The version that stands at a key's end.
+fn version_in(key: &[u8]) -> u64 {
+    u64::from_be_bytes(key[key.len() - 8..].try_into().expect("eight bytes"))
+}
+
+/// What a transaction sees: versions up to its own but those that were open when it began.
+pub struct View {
+    pub version: u64,
+    pub open: BTreeSet<u64>,
+}
+
+impl View {
+    fn sees(&self, version: u64) -> bool {
+        version <= self.version && !self.open.contains(&version)
+    }
 }
 
 impl Plain {
@@ -90,8 +107,13 @@ impl Plain {
         self.places.remove(key);
     }
 
-    /// The version of the next transaction, which is then open; nobody else is.
-    pub fn begin(&mut self) -> u64 {
+    /// The next transaction, which is then open, and those that are open before it.
+    pub fn begin(&mut self) -> View {
+        let open = self.places.range(active_key(0)..=active_key(u64::MAX)).map(|(key, _)| version_in(key)).collect();
+        View { version: self.begin_version(), open }
+    }
+
+    fn begin_version(&mut self) -> u64 {
         let place = self.places.get([0].as_slice()).cloned();
         let version = place.map_or(1, |p| u64::from_be_bytes(self.log[p].try_into().expect("eight bytes")));
         self.put(vec![0], &(version + 1).to_be_bytes());
@@ -99,21 +121,21 @@ impl Plain {
         version
     }
 
-    /// The newest value below a version.
-    pub fn get(&self, version: u64, key: &[u8]) -> Option<&[u8]> {
-        let range = version_key(key, 0)..version_key(key, version);
-        let (_, place) = self.places.range(range).next_back()?;
+    /// The newest value that a view sees: below its version or of it, and of no transaction that was open then.
+    pub fn get(&self, view: &View, key: &[u8]) -> Option<&[u8]> {
+        let range = version_key(key, 0)..=version_key(key, view.version);
+        let (_, place) = self.places.range(range).rev().find(|(key, _)| view.sees(version_in(key)))?;
         self.log[place.clone()].strip_prefix(&[1])
     }
 
-    /// The newest value below a version of every key, in order.
-    pub fn scan(&self, version: u64, mut give: impl FnMut(&[u8], &[u8])) {
+    /// The newest value that a view sees of every key, in order.
+    pub fn scan(&self, view: &View, mut give: impl FnMut(&[u8], &[u8])) {
         let mut pairs = self.places.range(vec![4]..vec![5]).peekable();
         let string = |key: &[u8]| key.len() - 8;
         let mut newest: Option<&[u8]> = None;
         while let Some((key, place)) = pairs.next() {
             let body = &key[..string(key)];
-            if u64::from_be_bytes(key[body.len()..].try_into().expect("eight bytes")) < version {
+            if view.sees(version_in(key)) {
                 newest = Some(&self.log[place.clone()]);
             }
             if pairs.peek().is_some_and(|(next, _)| next[..string(next)] == *body) {

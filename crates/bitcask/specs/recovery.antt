@@ -1,7 +1,8 @@
--- The definitions of recovery: the map, the entries of a log and what they leave, agreement, one turn of opening, and what opening
--- promises.
+-- The definitions of recovery: the map, the entries of a log and what they leave, agreement, changes that wait beside a table, and what
+-- opening promises.
 pub mod Map
 pub mod Recover
 pub mod Agree
-pub mod Turns
+pub mod Waiting
+pub mod Passing
 pub mod Promises

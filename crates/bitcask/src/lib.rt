@@ -7,6 +7,7 @@ mod check;
 pub mod compaction;
 pub mod entry;
 pub mod keydir;
+mod merging;
 pub mod rank;
 pub mod read;
 pub mod recovery;

@@ -1,4 +1,5 @@
-// The opening of a log with a table of bytes: the entries in turn, into a cleared table, as bitcask::recovery does with words.
+// The opening of a log with a table of bytes: what bitcask::recovery makes of words, one entry after the other and each new key moved to
+// its place at once, which takes time in the square of the number of keys.
 use crate::answers::told;
 use crate::place::enter;
 use crate::place::find;
@@ -13,7 +14,6 @@ use bitcask::entry::entry_at;
 use bitcask::keydir::Found;
 use bitcask::keydir::Slot;
 use bitcask::keydir::key_of;
-use bitcask::recovery::Turn;
 use bitcask::request::fits;
 use keycode::Length;
 use keycode::Refusal;
@@ -24,10 +24,17 @@ ghost use lib.ListN.{length, replicate};
 ghost use Rattle.keycode.specs.Limits.{maxLog};
 ghost use Rattle.bitcask.specs.keydir.Slots.{slotWords};
 ghost use Rattle.bitcask.specs.recovery.Recover.{roomFor};
-ghost use Rattle.bitcask.specs.recovery.Turns.{Takes, Turns};
 ghost use Rattle.bitcask.specs.recovery.Promises.{Walks};
 ghost use Rattle.host.specs.Table.{wordsIn};
+ghost use Rattle.host.specs.Taking.{Takes, TakesEntry};
 ghost use Rattle.host.specs.Promises.{usedLength, Opens};
+
+// What came of an entry: there is none, none of the slots was free for its key, or where the next begins and how many slots are in use.
+pub enum Took {
+    Over,
+    Full,
+    Next { at: usize, count: usize },
+}
 
 // The slot of an entry at an offset.
 fn slot_for(at: usize, klen: usize, vlen: usize) -> Slot
@@ -52,32 +59,32 @@ fn has_room(slots: usize, count: usize, found: Found) -> bool
 }
 
 // An entry with a value.
-fn take_set(log: &[u8], table: &mut [u8], count: usize, s: Slot, end: usize) -> Turn
+fn take_set(log: &[u8], table: &mut [u8], count: usize, s: Slot, end: usize) -> Took
     requires { ⌜ slotWords * count ≤ length (wordsIn (now table)) ⌝ }
     ensures { λ r. ⌜ Takes (now (log .entry)) (wordsIn (now (table .entry))) count (record { slot = s; gone = false }) end r (wordsIn (now (table .exit))) ⌝ }
 {
     let found = find(log, table, count, key_of(log, s));
     if !has_room(table.len() / SLOT_BYTES, count, found) {
-        return Turn::Full;
+        return Took::Full;
     }
     let n = enter(table, count, found, s);
-    Turn::Next { at: end, count: n }
+    Took::Next { at: end, count: n }
 }
 
 // A tombstone.
-fn take_del(log: &[u8], table: &mut [u8], count: usize, s: Slot, end: usize) -> Turn
+fn take_del(log: &[u8], table: &mut [u8], count: usize, s: Slot, end: usize) -> Took
     requires { ⌜ slotWords * count ≤ length (wordsIn (now table)) ⌝ }
     ensures { λ r. ⌜ Takes (now (log .entry)) (wordsIn (now (table .entry))) count (record { slot = s; gone = true }) end r (wordsIn (now (table .exit))) ⌝ }
 {
     let found = find(log, table, count, key_of(log, s));
     let n = leave(table, count, found);
-    Turn::Next { at: end, count: n }
+    Took::Next { at: end, count: n }
 }
 
 // The entry at an offset.
-fn take_turn(log: &[u8], used: usize, table: &mut [u8], count: usize, at: usize) -> Turn
+fn take_entry(log: &[u8], used: usize, table: &mut [u8], count: usize, at: usize) -> Took
     requires { ⌜ (at ≤ used) × (used ≤ maxLog) × (slotWords * count ≤ length (wordsIn (now table))) ⌝ }
-    ensures { λ r. ⌜ Turns (now (log .entry)) used (wordsIn (now (table .entry))) count at r (wordsIn (now (table .exit))) ⌝ }
+    ensures { λ r. ⌜ TakesEntry (now (log .entry)) used (wordsIn (now (table .entry))) count at r (wordsIn (now (table .exit))) ⌝ }
 {
     let e = entry_at(log, used, at);
     match e {
@@ -89,7 +96,7 @@ fn take_turn(log: &[u8], used: usize, table: &mut [u8], count: usize, at: usize)
             let s = slot_for(at, klen, 0);
             take_del(log, table, count, s, at + 8 + klen)
         }
-        Read::Stop => Turn::Over,
+        Read::Stop => Took::Over,
     }
 }
 
@@ -101,16 +108,16 @@ fn walk(log: &[u8], used: usize, table: &mut [u8]) -> Changed
     let mut at: usize = 0;
     let mut count: usize = 0;
     loop {
-        let turn = take_turn(log, used, table, count, at);
-        match turn {
-            Turn::Over => {
+        let took = take_entry(log, used, table, count, at);
+        match took {
+            Took::Over => {
                 return Changed::Done(Used { len: at });
             }
-            Turn::Full => {
+            Took::Full => {
                 clear(table);
                 return Changed::Refused(Refusal::TableFull);
             }
-            Turn::Next { at: a, count: n } => {
+            Took::Next { at: a, count: n } => {
                 at = a;
                 count = n;
             }

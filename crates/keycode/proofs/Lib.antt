@@ -2,6 +2,7 @@
 pub mod Basics
 pub mod OrderLaws
 pub mod NumberLaws
+pub mod EightLaws
 pub mod BufferLaws
 pub mod StringLaws
 pub mod WriteLaws

@@ -1,7 +1,7 @@
 // Numbers as big-endian bytes. One writer and one reader serve every width: the eight bytes of a version, the four of an entry's lengths.
 ghost use mathlib.Core.Path.{_≡_};
 ghost use Prim.Native.Nat.{_+_, _≤_, _<_, _^_};
-ghost use lib.ListN.{length};
+ghost use lib.ListN.{length, take, drop};
 ghost use Rattle.keycode.specs.Number.{be, num};
 ghost use Rattle.keycode.specs.Buffer.{put};
 
@@ -31,6 +31,21 @@ pub fn get_number(s: &[u8]) -> u64
         i += 1;
     }
     n
+}
+
+// The number of the eight bytes from index at on. Its lowest byte comes first, in the order that a compiler reads as one load.
+pub(crate) fn eight_at(s: &[u8], at: usize) -> u64
+    requires { ⌜ at + 8 ≤ length (now s) ⌝ }
+    ensures { λ r. ⌜ r ≡ num (take 8 (drop at (now (s .entry)))) ⌝ }
+{
+    wide(s[at + 7])
+        + wide(s[at + 6]) * 0x100
+        + wide(s[at + 5]) * 0x1_0000
+        + wide(s[at + 4]) * 0x100_0000
+        + wide(s[at + 3]) * 0x1_0000_0000
+        + wide(s[at + 2]) * 0x100_0000_0000
+        + wide(s[at + 1]) * 0x1_0000_0000_0000
+        + wide(s[at]) * 0x100_0000_0000_0000
 }
 
 // A byte as a number; its bound is what the sums above rest on.

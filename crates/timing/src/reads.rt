@@ -1,7 +1,9 @@
 // The calls that look, and what they add to the sum.
-use crate::turns::next;
-use crate::turns::plus;
-use crate::turns::spell;
+use crate::keys::KEY_BYTES;
+use crate::keys::Keys;
+use crate::keys::next;
+use crate::keys::plus;
+use crate::keys::spell;
 use bitcask::Changed;
 use bitcask::Used;
 use keycode::Part;
@@ -41,28 +43,27 @@ fn weight(value: &[u8]) -> u64 {
     }
 }
 
-fn get(log: &[u8], used: Used, table: &[u32], n: u64) -> u64 {
-    let key = spell(n);
-    match mvcc::get(log, used, table, Handle::fresh(2, true), &key) {
+fn get(log: &[u8], used: Used, table: &[u32], h: Handle, keys: Keys, n: u64) -> u64 {
+    let code = spell(n, keys.absent);
+    match mvcc::get(log, used, table, h, clip(&code, keys.skip, KEY_BYTES)) {
         Located::At(p) => weight(clip(log, p.at, p.len)),
         Located::Refused(_) => 0,
     }
 }
 
-pub fn gets(log: &[u8], used: Used, table: &[u32], keys: u64, times: u64) -> u64 {
+pub fn gets(log: &[u8], used: Used, table: &[u32], h: Handle, keys: Keys, times: u64) -> u64 {
     let mut sum: u64 = 0;
     let mut n: u64 = 0;
     let mut i: u64 = 0;
     while i < times {
-        sum = plus(sum, get(log, used, table, n));
-        n = next(n, keys);
+        sum = plus(sum, get(log, used, table, h, keys, n));
+        n = next(n, keys.count);
         i += 1;
     }
     sum
 }
 
-fn step(log: &[u8], used: Used, table: &[u32], given: bool, last: Part) -> Stepped {
-    let h = Handle::fresh(2, true);
+fn step(log: &[u8], used: Used, table: &[u32], h: Handle, given: bool, last: Part) -> Stepped {
     mvcc::scan_step(
         log,
         used,
@@ -78,13 +79,13 @@ fn step(log: &[u8], used: Used, table: &[u32], given: bool, last: Part) -> Stepp
 }
 
 // No key of the bench holds a byte that is escaped, so the key of a pair is the last key of the next step as it stands.
-fn scan(log: &[u8], used: Used, table: &[u32]) -> u64 {
+fn scan(log: &[u8], used: Used, table: &[u32], h: Handle) -> u64 {
     let mut sum: u64 = 0;
     let mut given = false;
     let mut last = Part { at: 0, len: 0 };
     let mut i: usize = 0;
     while i < log.len() {
-        match step(log, used, table, given, last) {
+        match step(log, used, table, h, given, last) {
             Stepped::Next { key: k, value: v } => {
                 sum = plus(sum, weight(clip(log, v.at, v.len)));
                 last = k;
@@ -97,11 +98,11 @@ fn scan(log: &[u8], used: Used, table: &[u32]) -> u64 {
     sum
 }
 
-pub fn scans(log: &[u8], used: Used, table: &[u32], times: u64) -> u64 {
+pub fn scans(log: &[u8], used: Used, table: &[u32], h: Handle, times: u64) -> u64 {
     let mut sum: u64 = 0;
     let mut i: u64 = 0;
     while i < times {
-        sum = plus(sum, scan(log, used, table));
+        sum = plus(sum, scan(log, used, table, h));
         i += 1;
     }
     sum

@@ -1,20 +1,17 @@
 // The calls that change the store.
+use crate::keys::KEY_BYTES;
+use crate::keys::Keys;
+use crate::keys::next;
+use crate::keys::plus;
+use crate::keys::spell;
 use crate::reads::used_of;
-use crate::turns::next;
-use crate::turns::plus;
-use crate::turns::spell;
+use crate::start::begin_after;
+use crate::start::kept;
 use bitcask::Changed;
 use bitcask::Used;
 use bitcask::compact;
+use keycode::parts::clip;
 use mvcc::Handle;
-
-// The used length after a call; where it was refused, the one before.
-fn kept(answer: Changed, used: Used) -> Used {
-    match answer {
-        Changed::Done(u) => u,
-        Changed::Refused(_) => used,
-    }
-}
 
 // As many sets in one transaction: a key each, in turn.
 fn set_many(
@@ -22,34 +19,41 @@ fn set_many(
     used: Used,
     table: &mut [u32],
     h: Handle,
-    keys: u64,
+    keys: Keys,
     times: u64,
 ) -> Used {
     let mut u = used;
     let mut n: u64 = 0;
     let mut i: u64 = 0;
     while i < times {
-        let key = spell(n);
-        u = kept(mvcc::set(log, u, table, h, &key, b"another value"), u);
-        n = next(n, keys);
+        let code = spell(n, keys.absent);
+        let key = clip(&code, keys.skip, KEY_BYTES);
+        u = kept(mvcc::set(log, u, table, h, key, b"another value"), u);
+        n = next(n, keys.count);
         i += 1;
     }
     u
 }
 
-pub fn sets(log: &mut [u8], used: Used, table: &mut [u32], keys: u64, times: u64) -> u64 {
-    let b = mvcc::begin(log, used, table);
-    let h = b.handle;
-    let answer = b.answer;
-    let u = set_many(log, kept(answer, used), table, h, keys, times);
+pub fn sets(log: &mut [u8], used: Used, table: &mut [u32], keys: Keys, times: u64) -> u64 {
+    let s = begin_after(log, used, table, 0);
+    let begun = s.used;
+    let h = s.handle;
+    let u = set_many(log, begun, table, h, keys, times);
     u.len as u64
 }
 
-pub fn sets_committed(log: &mut [u8], used: Used, table: &mut [u32], keys: u64, times: u64) -> u64 {
-    let b = mvcc::begin(log, used, table);
-    let h = b.handle;
-    let answer = b.answer;
-    let u = set_many(log, kept(answer, used), table, h, keys, times);
+pub fn sets_committed(
+    log: &mut [u8],
+    used: Used,
+    table: &mut [u32],
+    keys: Keys,
+    times: u64,
+) -> u64 {
+    let s = begin_after(log, used, table, 0);
+    let begun = s.used;
+    let h = s.handle;
+    let u = set_many(log, begun, table, h, keys, times);
     used_of(mvcc::commit(log, u, table, h))
 }
 

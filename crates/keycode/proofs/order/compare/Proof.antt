@@ -1,6 +1,7 @@
-use Rattle.keycode.proofs.OrderLaws.{compare-less, compare-greater, compare-same, compare-short, compare-long, compare-ended}
-use Prim.Native.Nat.{ℕ, _≤_, _-_}
-use mathlib.Core.Path.{_≡_, _∙_, ap, sym, refl}
+-- `compare` goes by the numbers of eight bytes, then byte by byte.
+use Rattle.keycode.proofs.EightLaws.{eights-less, eights-greater, eights-same}
+use Prim.Native.Nat.{_≤_, _-_}
+use mathlib.Core.Path.{_≡_, _∙_, sym, refl}
 use native.Mathlib.Omega.{arith}
 use lib.ListN.{length, drop}
 use Rattle.keycode.specs.Order.{compareBytes}
@@ -8,43 +9,31 @@ use Rattle.keycode.proofs.order.compare.Statement.{statement}
 use Rattle.keycode.proofs.order.compare.Tie as tie
 
 abbrev Inv-loop : tie.InvT-loop
-Inv-loop a b i₀ i = (i ≤ length a) × (i ≤ length b) × (compareBytes a b ≡ compareBytes (drop i a) (drop i b))
+Inv-loop a b n i₀ i = (i ≤ length a) × (i ≤ length b) × (compareBytes a b ≡ compareBytes (drop i a) (drop i b))
 
 abbrev μ-loop : tie.MeasureT-loop
-μ-loop a b i₀ i = length a - i
+μ-loop a b n i₀ i = length a - i
 
 loop-holds : tie.Need-loop-holds Inv-loop μ-loop
 loop-holds c = (omega arith, omega arith, refl)
 
 returns : tie.Need-returns Inv-loop μ-loop
-returns c = sym (c .before .before .loop .inv .2 ∙ compare-long _ _ _ (c .before .loop-test .taken) (c .if1 .taken))
-
-shared-slice-read-x : tie.Need-shared-slice-read-x Inv-loop μ-loop
-shared-slice-read-x c = omega arith
-
-shared-slice-read-y : tie.Need-shared-slice-read-y Inv-loop μ-loop
-shared-slice-read-y c = omega arith
+returns c =
+    let a = c .before .before .before .before .before .before .before .before .args in let l = c .before .before .before .before .loop in
+    sym (l .inv .2 ∙ eights-less (a .a .now) (a .b .now) (l .i) (λ j. c .before .before .before .before .before .before .before .shared-slice-known .given j .fits) (λ j. c .before .before .before .before .before .before .shared-slice-known2 .given j .fits) (omega arith) (omega arith) (c .before .before .eight-at .ensures) (c .before .eight-at2 .ensures) (c .if1 .taken))
 
 returns-2 : tie.Need-returns-2 Inv-loop μ-loop
-returns-2 c = sym (c .before .before .before .before .before .loop .inv .2 ∙ compare-less _ _ _ (c .before .before .before .before .loop-test .taken) (c .before .before .before .if1 .left) (c .if2 .taken))
-
-returns-3 : tie.Need-returns-3 Inv-loop μ-loop
-returns-3 c = sym (c .before .before .before .before .before .before .loop .inv .2 ∙ compare-greater _ _ _ (c .before .before .before .before .before .loop-test .taken) (c .before .before .before .before .if1 .left) (c .if3 .taken))
-
-add-i : tie.Need-add-i Inv-loop μ-loop
-add-i c = omega arith
-
-loop-less : tie.Need-loop-less Inv-loop μ-loop
-loop-less c = omega arith
+returns-2 c =
+    let a = c .before .before .before .before .before .before .before .before .before .args in let l = c .before .before .before .before .before .loop in
+    sym (l .inv .2 ∙ eights-greater (a .a .now) (a .b .now) (l .i) (λ j. c .before .before .before .before .before .before .before .before .shared-slice-known .given j .fits) (λ j. c .before .before .before .before .before .before .before .shared-slice-known2 .given j .fits) (omega arith) (omega arith) (c .before .before .before .eight-at .ensures) (c .before .before .eight-at2 .ensures) (c .if2 .taken))
 
 loop-again : tie.Need-loop-again Inv-loop μ-loop
-loop-again c = (omega arith, omega arith, c .before .before .before .before .before .before .loop .inv .2 ∙ compare-same _ _ _ (c .before .before .before .before .before .loop-test .taken) (c .before .before .before .before .if1 .left) (c .if3 .left) (c .before .if2 .left))
+loop-again c =
+    let a = c .before .before .before .before .before .before .before .before .before .args in let l = c .before .before .before .before .before .loop in
+    (omega arith, omega arith, l .inv .2 ∙ eights-same (a .a .now) (a .b .now) (l .i) (λ j. c .before .before .before .before .before .before .before .before .shared-slice-known .given j .fits) (λ j. c .before .before .before .before .before .before .before .shared-slice-known2 .given j .fits) (omega arith) (omega arith) (c .before .before .before .eight-at .ensures) (c .before .before .eight-at2 .ensures) (c .if2 .left) (c .before .if1 .left))
 
-returns-4 : tie.Need-returns-4 Inv-loop μ-loop
-returns-4 c = sym (c .before .before .loop .inv .2 ∙ compare-short _ _ _ (c .before .loop-test .left) (c .if4 .taken))
-
-returns-5 : tie.Need-returns-5 Inv-loop μ-loop
-returns-5 c = sym (c .before .before .loop .inv .2 ∙ compare-ended _ _ _ (c .before .loop-test .left) (c .if4 .left))
+returns-3 : tie.Need-returns-3 Inv-loop μ-loop
+returns-3 c = c .compare-rest .ensures ∙ sym (c .before .before .loop .inv .2)
 
 pub compare-spec : {M : Type 1} → statement M
 compare-spec =
@@ -52,14 +41,15 @@ compare-spec =
     (tie.spec
     Inv-loop
     μ-loop
+    (λ c κs. tt)
     loop-holds
+    (λ c. omega arith)
+    (λ c κs. omega arith)
+    (λ c κs. omega arith)
     returns
-    shared-slice-read-x
-    shared-slice-read-y
     returns-2
-    returns-3
-    add-i
-    loop-less
+    (λ c. omega arith)
+    (λ c. omega arith)
     loop-again
-    returns-4
-    returns-5)
+    (λ c κs. (omega arith, omega arith))
+    returns-3)

@@ -5,10 +5,10 @@ use Rattle.timing.proofs.reads.gets.Statement.{statement}
 use Rattle.timing.proofs.reads.gets.Tie as tie
 
 abbrev Inv-loop : tie.InvT-loop
-Inv-loop log used table keys times sum₀ n₀ i₀ sum n i = Unit {0}
+Inv-loop log used table h keys times sum₀ n₀ i₀ sum n i = Unit {0}
 
 abbrev μ-loop : tie.MeasureT-loop
-μ-loop log used table keys times sum₀ n₀ i₀ sum n i = times - i
+μ-loop log used table h keys times sum₀ n₀ i₀ sum n i = times - i
 
 loop-holds : tie.Need-loop-holds Inv-loop μ-loop
 loop-holds c = tt

@@ -6,10 +6,10 @@ use Rattle.timing.proofs.reads.scan.Statement.{statement}
 use Rattle.timing.proofs.reads.scan.Tie as tie
 
 abbrev Inv-loop : tie.InvT-loop
-Inv-loop log used table sum₀ given₀ last₀ i₀ sum given last i = Unit {0}
+Inv-loop log used table h sum₀ given₀ last₀ i₀ sum given last i = Unit {0}
 
 abbrev μ-loop : tie.MeasureT-loop
-μ-loop log used table sum₀ given₀ last₀ i₀ sum given last i = length log - i
+μ-loop log used table h sum₀ given₀ last₀ i₀ sum given last i = length log - i
 
 loop-holds : tie.Need-loop-holds Inv-loop μ-loop
 loop-holds c = tt

@@ -5,10 +5,10 @@ use Rattle.timing.proofs.reads.scans.Statement.{statement}
 use Rattle.timing.proofs.reads.scans.Tie as tie
 
 abbrev Inv-loop : tie.InvT-loop
-Inv-loop log used table times sum₀ i₀ sum i = Unit {0}
+Inv-loop log used table h times sum₀ i₀ sum i = Unit {0}
 
 abbrev μ-loop : tie.MeasureT-loop
-μ-loop log used table times sum₀ i₀ sum i = times - i
+μ-loop log used table h times sum₀ i₀ sum i = times - i
 
 loop-holds : tie.Need-loop-holds Inv-loop μ-loop
 loop-holds c = tt

@@ -8,10 +8,10 @@ use Rattle.timing.proofs.writes.set_many.Statement.{statement}
 use Rattle.timing.proofs.writes.set_many.Tie as tie
 
 abbrev Inv-loop : tie.InvT-loop
-Inv-loop log₀ table₀ h keys times u₀ n₀ i₀ t11 log table u n i = (length log ≡ length log₀) × (length table ≡ length table₀)
+Inv-loop log₀ table₀ h keys times u₀ n₀ i₀ t12 log table u n i = (length log ≡ length log₀) × (length table ≡ length table₀)
 
 abbrev μ-loop : tie.MeasureT-loop
-μ-loop log₀ table₀ h keys times u₀ n₀ i₀ t11 log table u n i = times - i
+μ-loop log₀ table₀ h keys times u₀ n₀ i₀ t12 log table u n i = times - i
 
 loop-holds : tie.Need-loop-holds Inv-loop μ-loop
 loop-holds c = (refl, refl)
@@ -28,6 +28,7 @@ set-many-spec =
     loop-holds
     (λ c κs. search needs)
     (λ c. search needs)
+    (λ c κs. search needs)
     (λ c. search needs)
     (λ c κs. search needs)
     (λ c κs. search needs)
