@@ -3,6 +3,7 @@
 ./run calls this as `tape.py make|text|words FILE`; FILE may be -, standard input.
 """
 
+import os
 import pathlib
 import signal
 import subprocess
@@ -10,7 +11,7 @@ import sys
 from typing import Iterator, List
 
 from record import NUMBERS, RECORD, Record, request_words, spelt, unpacked
-from source import Item, read_source
+from source import Item, Line, read_source, record_of
 
 RUN = pathlib.Path(__file__).resolve().parent.parent / "run"
 SCAN = 7
@@ -26,14 +27,19 @@ def chunks(data: bytes) -> List[bytes]:
 
 
 def transcript(items: List[Item], data: bytes) -> Iterator[str]:
-    """A line an answer, a request before its first; what else a text has stays as it is."""
-    width = min(WIDEST, max((len(request_words(item)) for item in items if isinstance(item, bytes)), default=0))
+    """A line an answer, a request before its first; what else a text has stays as it is.
+
+    A comment behind a command stays behind its last answer.
+    """
+    width = min(WIDEST, max((len(request_words(record_of(item))) for item in items if not isinstance(item, str)), default=0))
     answers = chunks(data)
     at = 0
-    for item in items:
-        if isinstance(item, str):
-            yield item
+    for line in items:
+        if isinstance(line, str):
+            yield line
             continue
+        item = record_of(line)
+        comment = f"  {line.comment}" if isinstance(line, Line) else ""
         request = request_words(item)
         pairs = pairs_from(answers, at) if item[0] == SCAN else 0
         for shown in range(pairs + 1):
@@ -42,7 +48,7 @@ def transcript(items: List[Item], data: bytes) -> Iterator[str]:
             words = pair_words(answers[at]) if shown < pairs else last_words(item, answers[at], pairs)
             if not words:
                 raise Misfit(f"answer {at + 1} does not fit: {request_words(item)}: {answers[at].hex()}")
-            yield f"{request:<{width}} -> {words}"
+            yield f"{request:<{width}} -> {words}" + (comment if shown == pairs else "")
             request = ""
             at += 1
     if at < len(answers):
@@ -106,12 +112,38 @@ def said(status: int, message: str) -> int:
     return status
 
 
-def main(arguments: List[str]) -> int:
-    if len(arguments) != 2 or arguments[0] not in ("make", "text", "words"):
-        return said(2, "usage: tape.py make|text|words FILE")
-    task, name = arguments
+def read_all(name: str) -> bytes:
+    if name != "-":
+        return pathlib.Path(name).read_bytes()
+    if sys.stdin is None:
+        raise OSError(0, "standard input is closed")
+    return sys.stdin.buffer.read()
+
+
+def lost(error: OSError) -> int:
+    """Words that could not be written. Python would try once more as it ends, and fail with a message of its own."""
+    said(1, f"run: standard output: {error.strerror}")
+    sys.stderr.flush()
+    os._exit(1)
+
+
+def show(items: List[Item], data: bytes) -> int:
+    # A reader that has seen enough, as head, ends this program without a word.
+    signal.signal(signal.SIGPIPE, signal.SIG_DFL)
+    sys.stdout.reconfigure(encoding="utf-8")
+    status, message = 0, ""
     try:
-        data = sys.stdin.buffer.read() if name == "-" else pathlib.Path(name).read_bytes()
+        for line in transcript(items, data):
+            print(line)
+    except Misfit as misfit:
+        status, message = 1, f"run: {misfit}"
+    sys.stdout.flush()
+    return said(status, message) if message else status
+
+
+def run(task: str, name: str) -> int:
+    try:
+        data = read_all(name)
     except OSError as error:
         return said(2, f"run: {name}: {error.strerror}")
     items, faults = (chunks(data), []) if task == "words" else read_source(data)
@@ -119,23 +151,26 @@ def main(arguments: List[str]) -> int:
         said(2, f"{name}:{line}: {message}")
     if faults:
         return 2
-    tape = b"".join(item for item in items if isinstance(item, bytes))
+    tape = b"".join(map(record_of, items))
     if task == "make":
         sys.stdout.buffer.write(tape)
+        sys.stdout.flush()
         return 0
     ran = subprocess.run([RUN, "-"], input=tape, stdout=subprocess.PIPE, check=False)
     if ran.returncode:
         return said(ran.returncode if ran.returncode > 0 else 1, f"run: no answers to show, status {ran.returncode}")
-    # A reader that has seen enough, as head, ends this program without a word.
-    signal.signal(signal.SIGPIPE, signal.SIG_DFL)
-    sys.stdout.reconfigure(encoding="utf-8")
+    return show(items, ran.stdout)
+
+
+def main(arguments: List[str]) -> int:
+    if len(arguments) != 2 or arguments[0] not in ("make", "text", "words"):
+        return said(2, "usage: tape.py make|text|words FILE")
+    if sys.stdout is None:
+        return said(1, "run: standard output is closed")
     try:
-        for line in transcript(items, ran.stdout):
-            print(line)
-    except Misfit as misfit:
-        sys.stdout.flush()
-        return said(1, f"run: {misfit}")
-    return 0
+        return run(*arguments)
+    except OSError as error:
+        return lost(error)
 
 
 if __name__ == "__main__":

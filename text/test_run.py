@@ -129,7 +129,7 @@ class Run(unittest.TestCase):
     def test_wrong_calls(self):
         two = "a b|--text --tape|--words --text"
         more = "a b c|--text a b|--text a --words|--tape a --text|--tape --text a b"
-        for call in f"--help|--text|--words|--tape|{two}|{more}".split("|"):
+        for call in f"--help a|--text|--words|--tape|{two}|{more}".split("|"):
             with self.subTest(call=call):
                 self.ends(self.run_it(*call.split()), 2, b"", "usage: run ")
         self.ends(self.run_it(""), 2, b"", "usage: run ")
@@ -155,7 +155,7 @@ class Run(unittest.TestCase):
         for more in (), ("--tape",):
             ran = self.run_it("--text", "a text", *more)
             self.ends(ran, 2, b"", "a text:2: it is written: begin SLOT\na text:4: slot 16: a number from 0 to 15 is wanted\n")
-        self.ends(self.run_it("--text", "-", given=b"x"), 2, b"", "-:1: unknown command x\n")
+        self.ends(self.run_it("--text", "-", given=b"x"), 2, b"", "-:1: unknown command x: there are begin ")
         self.assertEqual(self.builds(), [])
 
     def test_answers_in_words(self):
@@ -179,6 +179,38 @@ class Run(unittest.TestCase):
         script(self.top / "program", "#!/bin/sh\ncat\nexit 7\n")
         self.ends(self.run_it("-", given=b"x"), 7, b"x", "run: building")
         self.ends(self.run_it("--words", "-", given=BEGIN), 7, b"", "run: no answers to show, status 7\n")
+
+    def shut(self, ends, *arguments):
+        """./run with its ends as a shell gives them."""
+        return self.run_it("-c", f'"$0" "$@" {ends}', self.top / "run", *arguments, command="/bin/sh")
+
+    def test_help_is_no_wrong_call(self):
+        ran = self.run_it("--help")
+        self.assertEqual((ran.returncode, ran.stdout[:11], ran.stderr), (0, b"usage: run ", b""))
+
+    def test_what_the_program_says_is_told(self):
+        """A program has no exit status of its own."""
+        script(self.top / "program", "#!/bin/sh\ncat\necho 'bench: an answer was not written' >&2\n")
+        self.ends(self.run_it("-", given=b"x"), 1, b"x", "run: building", "run: bench: an answer was not written\n")
+        self.ends(self.run_it("--words", "-", given=BEGIN), 1, b"", "run: bench: an answer was not written\nrun: no answers to show")
+
+    def test_no_answer_is_lost_in_silence(self):
+        (self.outside / "tape").write_bytes(BEGIN)
+        (self.top / "answers").write_bytes(BEGUN)
+        script(self.top / "program", f'#!/bin/sh\nexec cat "{self.top}/answers"\n')
+        self.run_it("tape")
+        full = "run: standard output: No space left on device\n"
+        for words in ("--words", "tape"), (), ("--text", self.top / "samples/bulletins.txt", "--tape"):
+            with self.subTest(words=words):
+                self.ends(self.shut(">/dev/full", *words), 1, b"", full)
+                self.ends(self.shut(">&-", *words), 1, b"", "run: standard output is closed\n")
+        self.ends(self.shut(">&-", "tape"), 1, b"", "run: standard output is closed\n")
+        for words in ("-",), ("--words", "-"), ("--text", "-"):
+            with self.subTest(words=words):
+                self.ends(self.shut("<&-", *words), 1, b"", "run: standard input is closed\n")
+                self.ends(self.shut("</", *words), 1, b"", "run: standard input is a directory\n")
+        for end in "<&-", "</":
+            self.ends(self.shut(end, "--words", "tape"), 0, b"begin 0 -> Done, slot 0, version 1\n")
 
     def test_another_processor(self):
         kit = self.outside / "kit"

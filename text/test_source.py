@@ -2,10 +2,11 @@
 
 import pathlib
 import random
+import time
 import unittest
 
 from record import COMMANDS, MOST, PLACES, Record, request_words
-from source import read_source
+from source import Line, read_source, record_of
 
 SAMPLES = pathlib.Path(__file__).resolve().parent.parent / "samples"
 CASES = pathlib.Path(__file__).resolve().parent / "cases"
@@ -64,7 +65,7 @@ class Making(unittest.TestCase):
 
     def test_comments_and_blank_lines_stay(self):
         text = b"# a\n\n \t\nbegin 0 # b\r\n  status #\n"
-        self.makes(text, "# a", "", "", laid((0, b"\x01")), laid((0, b"\x0b")))
+        self.makes(text, "# a", "", "", Line(laid((0, b"\x01")), "# b"), Line(laid((0, b"\x0b")), "#"))
         self.makes(b"# a\r\n  # b \t\n", "# a", "  # b")
         self.makes(b"# a\n# no newline", "# a", "# no newline")
         self.makes(b"\n", "")
@@ -88,14 +89,22 @@ class Making(unittest.TestCase):
         for text, tape in stored:
             items, faults = read_source(text.read_bytes())
             self.assertEqual(faults, [])
-            self.assertEqual(b"".join(item for item in items if isinstance(item, bytes)), tape.read_bytes())
+            self.assertEqual(b"".join(map(record_of, items)), tape.read_bytes())
+
+
+KNOWN = "there are begin read-only as-of get set delete scan commit rollback compact status record raw"
 
 
 class Faults(unittest.TestCase):
     MESSAGES = (
         (b"get 0 \xff", "the line is not UTF-8"),
-        (b"fetch 0 a", "unknown command fetch"),
-        (b'"begin" 0', 'unknown command "begin"'),
+        (b"fetch 0 a", f"unknown command fetch: {KNOWN}"),
+        (b'"begin" 0', f'unknown command "begin": {KNOWN}'),
+        (b"\x1b[2J 0", f"unknown command \\x1b[2J: {KNOWN}"),
+        (b"x" * 3000000, f"unknown command {'x' * 60}.. (3000000 signs): {KNOWN}"),
+        (b"begin \x1b", "slot \\x1b: a number from 0 to 15 is wanted"),
+        (b"get 0 0x" + b"g" * 99, f"0x{'g' * 58}.. (101 signs) is not hex, two digits a byte"),
+        (b'get 0 "\\\x07"', 'unknown escape \\\\x07: there are \\n \\t \\\\ \\" \\xhh'),
         (b"begin", "it is written: begin SLOT"),
         (b"commit 0 1", "it is written: commit SLOT"),
         (b"as-of 2", "it is written: as-of SLOT VERSION"),
@@ -138,6 +147,19 @@ class Faults(unittest.TestCase):
         items, faults = read_source(b"raw 01\n# a comment may\nstatus\nbegin 0\n")
         self.assertEqual(items, [b"\x01", "# a comment may"])
         self.assertEqual(faults, [(3, "nothing can follow a record cut short"), (4, "nothing can follow a record cut short")])
+
+    def test_what_is_no_text_is_told_once(self):
+        marked = "the text begins with a byte order mark (ef bb bf): take it out"
+        tape = "this is a tape and no text: it is run by ./run TAPE, and shown by --words TAPE"
+        self.assertEqual(read_source(b"\xef\xbb\xbfbegin 0\nx\n"), ([], [(1, marked)]))
+        self.assertEqual(read_source((SAMPLES / "bulletins.tape").read_bytes()), ([], [(1, tape)]))
+        self.assertEqual(read_source(b'get 0 "\0"\n')[1], [])
+
+    def test_a_long_string_takes_no_time_to_speak_of(self):
+        """Three million signs: in time that grew with the square these were minutes."""
+        start = time.process_time()
+        self.assertEqual(read_source(b'get 0 "' + b"a\\n" * 1000000 + b'"')[1], [(1, "key of 2000000 bytes: 64 are the most")])
+        self.assertLess(time.process_time() - start, 20)
 
     def test_all_faults_are_told(self):
         self.assertEqual([line for line, _ in read_source(b"begin\nbegin 0\nget\n\nset\n")[1]], [1, 3, 5])

@@ -3,6 +3,7 @@
 import unittest
 
 from record import spelt
+from source import Line
 from tape import Misfit, chunks, transcript
 from test_source import laid
 
@@ -37,6 +38,14 @@ class Spelling(unittest.TestCase):
         ):
             with self.subTest(data=data):
                 self.assertEqual(spelt(data), words)
+
+
+class Comments(unittest.TestCase):
+    def test_they_stay_behind_the_last_answer(self):
+        scan = Line(laid((0, b"\x07")), "# all of it")
+        lines = shown(["# a", scan, laid((0, b"\x0b"))], PAIR_ab_xy, end(1), laid((1, b"\x0b"), (11, b"\x02")))
+        first, last = 'scan 0 "" -> ab = xy', "          -> Done, 1 pair  # all of it"
+        self.assertEqual(lines, ["# a", first, last, "status    -> Done, 2 live keys"])
 
 
 class Showing(unittest.TestCase):

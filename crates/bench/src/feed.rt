@@ -2,6 +2,7 @@
 // has it. What is left at the end is a short record, and ends the run.
 use bitcask::Used;
 use keycode::parts::clip;
+use libc::STDERR_FILENO;
 use libc::STDIN_FILENO;
 use libc::STDOUT_FILENO;
 use tape::Taken;
@@ -13,6 +14,20 @@ pub struct Place {
     pub used: usize,
     pub other: bool,
     pub going: bool,
+}
+
+fn stopped(p: Place) -> Place {
+    Place {
+        used: p.used,
+        other: p.other,
+        going: false,
+    }
+}
+
+// The end of a run that did not answer its whole tape, on standard error, in a line of its own: a program has no exit status.
+fn told(p: Place, line: &[u8]) -> Place {
+    io::write_all(STDERR_FILENO, line);
+    stopped(p)
 }
 
 // One record, and its answers at once.
@@ -28,15 +43,24 @@ fn answer(
     let used = Used { len: p.used };
     match take(first, second, table, slots, used, p.other, bytes, answers) {
         Taken::Done(t) => {
-            let sent = io::write_all(STDOUT_FILENO, clip(answers, 0, t.len));
-            Place {
+            let n = Place {
                 used: t.used.len,
                 other: t.other,
-                going: sent && bytes.len() == RECORD,
+                going: bytes.len() == RECORD,
+            };
+            if io::write_all(STDOUT_FILENO, clip(answers, 0, t.len)) {
+                return n;
             }
+            told(n, b"bench: an answer was not written\n")
         }
-        Taken::Refused(_) => p,
+        Taken::Refused(_) => told(p, b"bench: a record was refused\n"),
     }
+}
+
+// Whether the tape has ended: a read that fails gives no byte either.
+fn over() -> bool {
+    let mut one = [0u8; 1];
+    libc::read(STDIN_FILENO, &mut one) == 0
 }
 
 fn turn(
@@ -49,12 +73,11 @@ fn turn(
     p: Place,
 ) -> Place {
     let n = io::read_full(STDIN_FILENO, record);
+    if n < RECORD && !over() {
+        return told(p, b"bench: the tape could not be read\n");
+    }
     if n == 0 {
-        return Place {
-            used: p.used,
-            other: p.other,
-            going: false,
-        };
+        return stopped(p);
     }
     answer(first, second, table, slots, clip(record, 0, n), answers, p)
 }

@@ -5,6 +5,7 @@ mod feed;
 use bitcask::Used;
 use bitcask::open;
 use feed::run;
+use tape::format::layout::RECORD;
 
 // The log, and as many bytes beside it for compactions.
 const LOG: usize = 16384;
@@ -23,7 +24,7 @@ fn main() {
     let mut second = [0u8; LOG];
     let mut table = [0u32; WORDS];
     let mut slots = [0u64; SLOTS];
-    let mut record = [0u8; 128];
+    let mut record = [0u8; RECORD];
     let mut answers = [0u8; ANSWERS];
     open(&first, Used { len: 0 }, &mut table);
     run(
