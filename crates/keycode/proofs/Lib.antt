@@ -4,6 +4,7 @@ pub mod OrderLaws
 pub mod NumberLaws
 pub mod BufferLaws
 pub mod StringLaws
+pub mod SortLaws
 pub mod WriteLaws
 pub mod PrefixLaws
 pub mod Unique
