@@ -5,8 +5,8 @@ use std::collections::HashMap;
 use std::io::Write as _;
 use std::process::{Command, Stdio};
 
+use crate::bench_rows::{Before, Row, rows};
 use crate::plot::{Line, plot};
-use crate::rows::{Before, Row, rows};
 use crate::timing::{Request, request};
 
 /// Runs of each measurement; the shortest counts.

@@ -149,7 +149,8 @@ fn user(random: &mut Random) -> Vec<u8> {
     (0..len).map(|_| if random.percent(60) { *random.pick(&[0, 0xff, 1, b'a']) } else { random.next() as u8 }).collect()
 }
 
-fn spoil(random: &mut Random, bytes: &mut Vec<u8>) {
+/// One byte altered, taken out or put in, or the end cut off.
+pub fn spoil(random: &mut Random, bytes: &mut Vec<u8>) {
     match random.below(5) {
         0 => bytes.truncate(random.below(bytes.len() + 1)),
         1 => bytes.push(random.next() as u8),

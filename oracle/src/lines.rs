@@ -26,8 +26,8 @@ pub fn answered(line: &str, number: u8, length: u64, buffer: &[u8]) -> Request {
     Request { line: line.to_string(), answer: format!("{number} {length} {buffer}"), number }
 }
 
-/// Runs all requests in one process; `what` names them and says how to make them again.
-pub fn compare(driver: &str, what: &str, requests: &[Request], report: &mut Report) {
+/// Runs all requests in one process; `what` names them and says how to make them again. Gives what ours answered.
+pub fn compare(driver: &str, what: &str, requests: &[Request], report: &mut Report) -> String {
     let input: String = requests.iter().map(|r| r.line.clone() + "\n").collect();
     let output = String::from_utf8(ours::run(driver, input.as_bytes())).expect("lines of text");
     let mut answers = output.lines();
@@ -42,4 +42,5 @@ pub fn compare(driver: &str, what: &str, requests: &[Request], report: &mut Repo
     if answers.next().is_some() {
         report.differs(&format!("{what}: more answers than requests"));
     }
+    output
 }

@@ -9,12 +9,15 @@
 //!   oracle tapes BENCH N        N tapes of every kind, on toydb and on the program BENCH
 //!   oracle calls PROGRAM N      N scripts of every kind, on toydb and on the program PROGRAM
 //!   oracle host DRIVER N        keys and logs, all small ones and N seeds, on toydb and through the program DRIVER (host/driver.c)
+//!   oracle rows PROGRAM N       typed keys, all small ones and N seeds of 100 rows, on toydb and on the program PROGRAM (crate catalogue)
 //!   oracle listed PROGRAM DRIVER  the cases of docs/DIFFERENCES.md, on toydb by itself and on ours
 
 mod bench;
+mod bench_rows;
 mod calls;
 mod compare_calls;
 mod compare_host;
+mod compare_rows;
 mod compare_tapes;
 mod damage;
 mod held;
@@ -29,6 +32,7 @@ mod plot;
 mod random;
 mod record;
 mod report;
+mod row;
 mod rows;
 mod script;
 mod spell;
@@ -84,6 +88,7 @@ fn main() {
         Some("tapes") if args.len() == 3 => compare_tapes::compare(&args[1], number(2).expect("a number")),
         Some("calls") if args.len() == 3 => compare_calls::compare(&args[1], number(2).expect("a number")),
         Some("host") if args.len() == 3 => compare_host::compare(&args[1], number(2).expect("a number")),
+        Some("rows") if args.len() == 3 => compare_rows::compare(&args[1], number(2).expect("a number")),
         Some("listed") if args.len() == 3 => listed::compare(&args[1], &args[2]),
         _ => {
             eprintln!("oracle: see the head of src/main.rs for its calls");

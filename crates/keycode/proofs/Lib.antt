@@ -5,6 +5,7 @@ pub mod NumberLaws
 pub mod EightLaws
 pub mod BufferLaws
 pub mod StringLaws
+pub mod SortLaws
 pub mod WriteLaws
 pub mod PrefixLaws
 pub mod Unique

@@ -42,7 +42,7 @@ pub enum Scanned {
 }
 
 // How many bytes a byte is, escaped.
-fn escaped_byte_len(b: u8) -> usize
+pub fn escaped_byte_len(b: u8) -> usize
     ensures { λ r. ⌜ r ≡ length (escapeByte b) ⌝ }
 {
     if b == 0 { 2 } else { 1 }
@@ -91,7 +91,7 @@ pub(crate) fn escape_body_into(key: &[u8], out: &mut [u8], at: usize) -> usize
 }
 
 // Writes a string, escaped and ended, and returns the index after it.
-pub(crate) fn escape_into(key: &[u8], out: &mut [u8], at: usize) -> usize
+pub fn escape_into(key: &[u8], out: &mut [u8], at: usize) -> usize
     requires { ⌜ at + length (escape (now key)) ≤ length (now out) ⌝ }
     ensures { λ r. ⌜ (r ≡ at + length (escape (now (key .entry)))) × (now (out .exit) ≡ put (now (out .entry)) at (escape (now (key .entry)))) ⌝ }
 {
@@ -102,7 +102,7 @@ pub(crate) fn escape_into(key: &[u8], out: &mut [u8], at: usize) -> usize
 }
 
 // What stands at index i of escaped bytes.
-fn step_at(s: &[u8], i: usize) -> Step
+pub fn step_at(s: &[u8], i: usize) -> Step
     requires { ⌜ i ≤ length (now s) ⌝ }
     ensures { λ r. ⌜ r ≡ stepAt i (drop i (now (s .entry))) ⌝ }
 {

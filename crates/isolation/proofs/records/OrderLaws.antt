@@ -14,7 +14,7 @@ use Rattle.keycode.proofs.OrderLaws.{nat-equal, nat-greater, andThen-equal, fli
 use Rattle.keycode.proofs.NumberLaws.{compare-any}
 use Rattle.keycode.specs.key.Keys.{Fields, txnActive, version, encode}
 use Rattle.keycode.proofs.key.KeyLaws.{no-prefix}
-use Rattle.keycode.proofs.key.KeyOrder.{string-sorts}
+use Rattle.keycode.proofs.SortLaws.{string-sorts}
 use Rattle.isolation.specs.history.History.{Key}
 use Rattle.isolation.specs.history.Records.{Before, Order}
 use Rattle.isolation.specs.records.Stored.{orderingOf, keyOrder}

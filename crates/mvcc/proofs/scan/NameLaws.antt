@@ -29,7 +29,7 @@ use Rattle.keycode.specs.declared.order.Order.the-variants.{Less, Greater}
 use Rattle.keycode.proofs.Basics.{nope}
 use Rattle.keycode.proofs.OrderLaws.{same-head}
 use Rattle.keycode.proofs.StringLaws.{Found, scan-found, unescaped-body}
-use Rattle.keycode.proofs.key.KeyOrder.{string-sorts}
+use Rattle.keycode.proofs.SortLaws.{string-sorts}
 use Rattle.mvcc.specs.scan.Steps.{Stamp, stampBy, stampOf}
 
 -- ---- decoding, taken back
