@@ -21,7 +21,7 @@ fn last(n: u64, absent: u64) -> u8 {
     if absent == 0 { letter(n) } else { b'q' }
 }
 
-pub fn spell(n: u64, absent: u64) -> [u8; KEY_BYTES] {
+pub(crate) fn spell(n: u64, absent: u64) -> [u8; KEY_BYTES] {
     let mut out = [b's'; KEY_BYTES];
     out[SHARED] = letter(n / 268435456);
     out[SHARED + 1] = letter(n / 16777216);
@@ -35,13 +35,13 @@ pub fn spell(n: u64, absent: u64) -> [u8; KEY_BYTES] {
 }
 
 // Every key once, in a turn that is far from their order: 7919 is a prime.
-pub fn next(n: u64, keys: u64) -> u64 {
+pub(crate) fn next(n: u64, keys: u64) -> u64 {
     if keys == 0 {
         return 0;
     }
     std::num::wrapping_add_u64(n, 7919) % keys
 }
 
-pub fn plus(a: u64, b: u64) -> u64 {
+pub(crate) fn plus(a: u64, b: u64) -> u64 {
     std::num::wrapping_add_u64(a, b)
 }

@@ -13,14 +13,14 @@ use mvcc::Handle;
 use mvcc::Located;
 use mvcc::Stepped;
 
-pub fn used_of(answer: Changed) -> u64 {
+pub(crate) fn used_of(answer: Changed) -> u64 {
     match answer {
         Changed::Done(u) => u.len as u64,
         Changed::Refused(_) => 0,
     }
 }
 
-pub fn opens(log: &[u8], used: Used, table: &mut [u32], times: u64) -> u64 {
+pub(crate) fn opens(log: &[u8], used: Used, table: &mut [u32], times: u64) -> u64 {
     let mut sum: u64 = 0;
     let mut i: u64 = 0;
     while i < times {
@@ -51,7 +51,14 @@ fn get(log: &[u8], used: Used, table: &[u32], h: Handle, keys: Keys, n: u64) -> 
     }
 }
 
-pub fn gets(log: &[u8], used: Used, table: &[u32], h: Handle, keys: Keys, times: u64) -> u64 {
+pub(crate) fn gets(
+    log: &[u8],
+    used: Used,
+    table: &[u32],
+    h: Handle,
+    keys: Keys,
+    times: u64,
+) -> u64 {
     let mut sum: u64 = 0;
     let mut n: u64 = 0;
     let mut i: u64 = 0;
@@ -98,7 +105,7 @@ fn scan(log: &[u8], used: Used, table: &[u32], h: Handle) -> u64 {
     sum
 }
 
-pub fn scans(log: &[u8], used: Used, table: &[u32], h: Handle, times: u64) -> u64 {
+pub(crate) fn scans(log: &[u8], used: Used, table: &[u32], h: Handle, times: u64) -> u64 {
     let mut sum: u64 = 0;
     let mut i: u64 = 0;
     while i < times {

@@ -9,14 +9,14 @@ pub struct Begun {
 }
 
 // The used length after a call; where it was refused, the one before.
-pub fn kept(answer: Changed, used: Used) -> Used {
+pub(crate) fn kept(answer: Changed, used: Used) -> Used {
     match answer {
         Changed::Done(u) => u,
         Changed::Refused(_) => used,
     }
 }
 
-pub fn begin_after(log: &mut [u8], used: Used, table: &mut [u32], others: u64) -> Begun {
+pub(crate) fn begin_after(log: &mut [u8], used: Used, table: &mut [u32], others: u64) -> Begun {
     let mut u = used;
     let mut i: u64 = 0;
     while i < others {

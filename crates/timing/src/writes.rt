@@ -35,7 +35,7 @@ fn set_many(
     u
 }
 
-pub fn sets(log: &mut [u8], used: Used, table: &mut [u32], keys: Keys, times: u64) -> u64 {
+pub(crate) fn sets(log: &mut [u8], used: Used, table: &mut [u32], keys: Keys, times: u64) -> u64 {
     let s = begin_after(log, used, table, 0);
     let begun = s.used;
     let h = s.handle;
@@ -43,7 +43,7 @@ pub fn sets(log: &mut [u8], used: Used, table: &mut [u32], keys: Keys, times: u6
     u.len as u64
 }
 
-pub fn sets_committed(
+pub(crate) fn sets_committed(
     log: &mut [u8],
     used: Used,
     table: &mut [u32],
@@ -58,7 +58,7 @@ pub fn sets_committed(
 }
 
 // There and back: two compactions a turn.
-pub fn compactions(
+pub(crate) fn compactions(
     log: &mut [u8],
     used: Used,
     table: &mut [u32],
