@@ -7,3 +7,4 @@ pub mod change
 pub mod read
 pub mod compaction
 pub mod check
+pub mod engine

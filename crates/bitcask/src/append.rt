@@ -56,7 +56,7 @@ pub fn room_after(room: Room, klen: usize, vlen: usize) -> Room
 }
 
 // 7 where the entries have no room, then 8 where their new keys have no slots.
-pub fn judged(room: Room, fresh: usize, free: usize) -> Check
+pub(crate) fn judged(room: Room, fresh: usize, free: usize) -> Check
     ensures { λ r. ⌜ r ≡ judge room fresh free ⌝ }
 {
     match room {
@@ -72,7 +72,7 @@ pub fn judged(room: Room, fresh: usize, free: usize) -> Check
 }
 
 // How many slots a key wants: none where it has one.
-pub fn fresh(log: &[u8], table: &[u32], count: usize, key: &[u8]) -> usize
+pub(crate) fn fresh(log: &[u8], table: &[u32], count: usize, key: &[u8]) -> usize
     requires { ⌜ slotWords * count ≤ length (now table) ⌝ }
     ensures { λ r. ⌜ r ≡ freshIn (now (log .entry)) (now (key .entry)) (slotsOf count (now (table .entry))) ⌝ }
 {

@@ -5,6 +5,7 @@ pub mod append;
 pub mod change;
 mod check;
 pub mod compaction;
+pub mod engine;
 pub mod entry;
 pub mod keydir;
 mod merging;

@@ -31,7 +31,7 @@ fn upto(log: &[u8], table: &[u32], count: usize, key: &[u8]) -> usize
 }
 
 // The number of the first key that a lower bound admits.
-pub fn from_bound(log: &[u8], table: &[u32], count: usize, bound: Bound, key: &[u8]) -> usize
+pub(crate) fn from_bound(log: &[u8], table: &[u32], count: usize, bound: Bound, key: &[u8]) -> usize
     requires { ⌜ slotWords * count ≤ length (now table) ⌝ }
     ensures { λ r. ⌜ (r ≡ fromBound bound (now (log .entry)) (now (key .entry)) (slotsOf count (now (table .entry)))) × (r ≤ count) ⌝ }
 {
@@ -43,7 +43,7 @@ pub fn from_bound(log: &[u8], table: &[u32], count: usize, bound: Bound, key: &[
 }
 
 // The number past the last key that an upper bound admits.
-pub fn upto_bound(log: &[u8], table: &[u32], count: usize, bound: Bound, key: &[u8]) -> usize
+pub(crate) fn upto_bound(log: &[u8], table: &[u32], count: usize, bound: Bound, key: &[u8]) -> usize
     requires { ⌜ slotWords * count ≤ length (now table) ⌝ }
     ensures { λ r. ⌜ (r ≡ uptoBound bound (now (log .entry)) (now (key .entry)) (slotsOf count (now (table .entry)))) × (r ≤ count) ⌝ }
 {

@@ -37,7 +37,7 @@ fn wide(x: u32) -> usize
 }
 
 // The place of a slot's key.
-pub fn key_part(s: Slot) -> Part
+pub(crate) fn key_part(s: Slot) -> Part
     ensures { λ r. ⌜ r ≡ keyPart s ⌝ }
 {
     Part {
@@ -47,7 +47,7 @@ pub fn key_part(s: Slot) -> Part
 }
 
 // The place of a slot's value.
-pub fn value_part(s: Slot) -> Part
+pub(crate) fn value_part(s: Slot) -> Part
     ensures { λ r. ⌜ r ≡ valuePart s ⌝ }
 {
     Part {

@@ -3,14 +3,14 @@ use Prim.Native.Nat.{ℕ, zero, suc, _+_, _-_, _*_, _<_, _≤_}
 use mathlib.Core.Path.{_≡_, refl, sym, ap, _∙_}
 use mathlib.Core.List.{List, [], _∷_, _++_, append-assoc}
 use native.Mathlib.Omega.{arith}
-use lib.ListN.{length, take, drop, getD, set, replicate, length-append, length-take, length-drop}
+use lib.ListN.{length, take, drop, getD, set, replicate, length-append, length-take, length-drop, length-replicate}
 use lib.Seq.{take-at, take-nil, drop-nil, drop-drop, getD-drop, slice, length-slice, take-append-le, drop-append-le, sets-eq}
 use Rattle.keycode.specs.Buffer.{put}
-use Rattle.keycode.proofs.BufferLaws.{put-put}
+use Rattle.keycode.proofs.BufferLaws.{put-put, length-put}
 use Rattle.bitcask.specs.declared.keydir.slots.Slot.{Slot}
 use Rattle.bitcask.specs.keydir.Words.{copied}
-use Rattle.bitcask.specs.keydir.Slots.{slotWords, freeSlot, slotHead, slotAt, slotsOf, wordsOf, insertAt, replaceAt, removeAt, keyOf, valueOf}
-use Rattle.bitcask.proofs.keydir.WordLaws.{put-first}
+use Rattle.bitcask.specs.keydir.Slots.{slotWords, freeSlot, slotHead, slotAt, slotsOf, wordsOf, insertAt, replaceAt, removeAt, removeSpan, keyOf, valueOf}
+use Rattle.bitcask.proofs.keydir.WordLaws.{put-first, cleared}
 
 -- ---- the words of slots
 
@@ -159,6 +159,33 @@ module _ (t : List ℕ) (n : ℕ) (room : slotWords * n ≤ length t) where
       let l : length xs ≡ slotWords * n - slotWords * suc i = length-slice (slotWords * suc i) (slotWords * n) t room in
       let e₃ : slotWords * (n - 1) ≡ slotWords * i + length xs = omega arith in
       rw (e₁, e₂, e₃) (put-put t (slotWords * i) xs (omega arith) (wordsOf (freeSlot ∷ [])) ∙ removed i xs h (back (suc i)) l)
+
+-- ---- a span of slots taken out
+
+module _ (t : List ℕ) (n i j : ℕ) (h : i ≤ j) (g : j ≤ n) (room : slotWords * n ≤ length t) where
+  spanned : (xs zs : List ℕ) → xs ≡ wordsOf (drop j (slotsOf n t)) → length xs + length zs ≡ slotWords * n - slotWords * i
+      → put t (slotWords * i) (xs ++ zs) ≡ wordsOf (removeSpan i j (slotsOf n t)) ++ (zs ++ drop (slotWords * n) t)
+  unfolding put removeSpan
+  spanned xs zs e l =
+      let m : slotWords * i + length (xs ++ zs) ≡ slotWords * n = simp length-append (omega arith) in
+      rw (m, fore t n room i (omega arith), e, words-append (take i (slotsOf n t)) (drop j (slotsOf n t))) (simp append-assoc)
+
+  -- moved down, and cleared at the end
+  pub span-done : {t′ y : List ℕ} → t′ ≡ copied t (slotWords * j) (slotWords * n) (slotWords * i)
+      → y ≡ replicate (length (take (slotWords * n - slotWords * (i + (n - j))) (drop (slotWords * (i + (n - j))) t′))) 0
+      → take (slotWords * (i + (n - j))) t′ ++ (y ++ drop (slotWords * n - slotWords * (i + (n - j))) (drop (slotWords * (i + (n - j))) t′))
+      ≡ wordsOf (removeSpan i j (slotsOf n t)) ++ (replicate (slotWords * (j - i)) 0 ++ drop (slotWords * n) t)
+  unfolding copied
+  span-done {t′} {y} e f =
+      let xs : List ℕ = slice (slotWords * j) (slotWords * n) t in
+      let l : length xs ≡ slotWords * n - slotWords * j = length-slice (slotWords * j) (slotWords * n) t room in
+      let p : length t′ ≡ length t = ap length e ∙ length-put t (slotWords * i) xs (omega arith) in
+      let k : slotWords * n - slotWords * (i + (n - j)) ≡ slotWords * (j - i) = omega arith in
+      let q : slotWords * (i + (n - j)) ≡ slotWords * i + length xs = omega arith in
+      let z : length (replicate {A = ℕ} (slotWords * (j - i)) 0) ≡ slotWords * (j - i) = length-replicate (slotWords * (j - i)) 0 in
+      cleared t′ (slotWords * (i + (n - j))) (slotWords * n) (omega arith) (omega arith) f
+      ∙ rw (k, q, e) (put-put t (slotWords * i) xs (omega arith) (replicate (slotWords * (j - i)) 0))
+      ∙ spanned xs (replicate (slotWords * (j - i)) 0) (back t n room j) (omega arith)
 
 pub insert-is : (t : List ℕ) (n i : ℕ) (s : Slot) → i ≤ n → slotWords * n + slotWords ≤ length t
     → put (copied t (slotWords * i) (slotWords * n) (slotWords * i + slotWords)) (slotWords * i) (wordsOf (s ∷ [])) ≡ wordsOf (insertAt i s (slotsOf n t)) ++ drop (slotWords * n + slotWords) t

@@ -45,6 +45,10 @@ replaceAt i s ss = take i ss ++ (s ∷ drop (suc i) ss)
 unfoldable pub removeAt : ℕ → List Slot → List Slot
 removeAt i ss = take i ss ++ drop (suc i) ss
 
+-- those from the i-th to the j-th gone
+unfoldable pub removeSpan : ℕ → ℕ → List Slot → List Slot
+removeSpan i j ss = take i ss ++ drop j ss
+
 -- ---- the key and the value of a slot, as they stand in the log: an entry's key stands 8 bytes behind the entry's offset
 
 unfoldable pub keyOf : List ℕ → Slot → List ℕ

@@ -1,9 +1,11 @@
 -- The map of a store: pairs of a key and its value, the keys strictly rising. Everything above the log speaks of this map and never of
 -- the table's words. Assumes nothing.
 use mathlib.Core.Option.{Option, none, some}
+use mathlib.Core.Bool.{Bool, true, false}
 use mathlib.Core.List.{List, [], _∷_}
 use mathlib.Core.Path.{_≡_}
 use Prim.Native.Nat.{ℕ}
+use Rattle.keycode.specs.Tests.{pick}
 use Rattle.keycode.specs.Order.{compareBytes, byOrder}
 use Rattle.keycode.specs.declared.order.Order.the-variants.{Less}
 use Rattle.bitcask.specs.entry.Entry.{Entry, set, del}
@@ -17,6 +19,14 @@ pub record Pair : Type 0 where
 unfoldable pub lookIn : List ℕ → List Pair → Option (List ℕ)
 lookIn k [] = none
 lookIn k (q ∷ m) = byOrder (compareBytes (q .key) k) (lookIn k m) (some (q .value)) none
+
+abbrev pub isSome : Option (List ℕ) → Bool
+isSome none = false
+isSome (some v) = true
+
+-- whether a key has one
+unfoldable pub liveIn : List ℕ → List Pair → Bool
+liveIn key m = isSome (lookIn key m)
 
 -- with a pair put in, in place of one of the same key
 unfoldable pub putIn : Pair → List Pair → List Pair
@@ -37,3 +47,8 @@ after (del k) m = cutIn k m
 pub data Rising : List Pair → Type 0 where
   rising-none : Rising []
   rising-more : {p : Pair} {m : List Pair} → All (λ (q : Pair). compareBytes (p .key) (q .key) ≡ Less) m → Rising m → Rising (p ∷ m)
+
+-- the pairs of a map whose keys a test admits
+unfoldable pub pairsOf : (List ℕ → Bool) → List Pair → List Pair
+pairsOf p [] = []
+pairsOf p (q ∷ m) = pick (p (q .key)) (q ∷ pairsOf p m) (pairsOf p m)

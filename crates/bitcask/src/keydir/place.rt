@@ -74,7 +74,7 @@ pub(crate) fn enter(table: &mut [u32], count: usize, found: Found, s: Slot) -> u
 }
 
 // The slot at a place that was found taken out, if there is one; gives the slots in use then.
-pub fn leave(table: &mut [u32], count: usize, found: Found) -> usize
+pub(crate) fn leave(table: &mut [u32], count: usize, found: Found) -> usize
     requires { ⌜ (Among count found) × (slotWords * count ≤ length (now table)) ⌝ }
     ensures { λ r. ⌜ Becomes (now (table .entry)) count (cutAt found (slotsOf count (now (table .entry)))) (now (table .exit)) r ⌝ }
 {

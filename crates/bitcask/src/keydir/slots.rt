@@ -1,13 +1,15 @@
 // The slots of a table, read, put in, replaced and taken out. Any words may arrive: each contract is an equation for all of them.
+use crate::keydir::words::clear;
 use crate::keydir::words::shift_down;
 use crate::keydir::words::shift_up;
+use crate::merging::moves::move_down;
 use keycode::parts::clip;
 ghost use mathlib.Core.Path.{_≡_};
 ghost use mathlib.Core.List.{[], _∷_, _++_};
-ghost use Prim.Native.Nat.{_+_, _*_, _≤_, _<_};
+ghost use Prim.Native.Nat.{_+_, _-_, _*_, _≤_, _<_};
 ghost use lib.ListN.{length, drop, replicate};
 ghost use Rattle.keycode.specs.Buffer.{put};
-ghost use Rattle.bitcask.specs.keydir.Slots.{slotWords, slotAt, slotsOf, wordsOf, insertAt, replaceAt, removeAt, keyOf, valueOf};
+ghost use Rattle.bitcask.specs.keydir.Slots.{slotWords, slotAt, slotsOf, wordsOf, insertAt, replaceAt, removeAt, removeSpan, keyOf, valueOf};
 ghost use Rattle.bitcask.specs.keydir.Place.{countOf};
 
 // The words that a slot takes.
@@ -21,7 +23,7 @@ pub struct Slot {
 }
 
 // The i-th slot.
-pub fn slot_at(table: &[u32], i: usize) -> Slot
+pub(crate) fn slot_at(table: &[u32], i: usize) -> Slot
     requires { ⌜ slotWords * i + slotWords ≤ length (now table) ⌝ }
     ensures { λ r. ⌜ r ≡ slotAt (now (table .entry)) i ⌝ }
 {
@@ -76,8 +78,19 @@ pub(crate) fn remove(table: &mut [u32], count: usize, i: usize)
     store(table, last, free);
 }
 
+// The slots from the i-th to the j-th of `count` gone with one move, the words that they free at the end cleared.
+pub(crate) fn remove_span(table: &mut [u32], count: usize, i: usize, j: usize)
+    requires { ⌜ (i ≤ j) × (j ≤ count) × (slotWords * count ≤ length (now table)) ⌝ }
+    ensures { λ _. ⌜ now (table .exit) ≡ wordsOf (removeSpan i j (slotsOf count (now (table .entry)))) ++ (replicate (slotWords * (j - i)) 0 ++ drop (slotWords * count) (now (table .entry))) ⌝ }
+{
+    let last = SLOT_WORDS * (i + (count - j));
+    let end = SLOT_WORDS * count;
+    move_down(table, SLOT_WORDS * j, end, SLOT_WORDS * i);
+    clear(&mut table[last..end]);
+}
+
 // How many slots are in use.
-pub fn count(table: &[u32]) -> usize
+pub(crate) fn count(table: &[u32]) -> usize
     ensures { λ r. ⌜ r ≡ countOf (now (table .entry)) ⌝ }
 {
     let mut low = 0;
@@ -109,7 +122,7 @@ pub fn key_of(log: &[u8], s: Slot) -> &[u8]
 }
 
 // A slot's value, as far as the log goes.
-pub fn value_of(log: &[u8], s: Slot) -> &[u8]
+pub(crate) fn value_of(log: &[u8], s: Slot) -> &[u8]
     ensures { λ r. ⌜ now r ≡ valueOf (now (log .entry)) s ⌝ }
 {
     let start = wide(s.place) + 7 + wide(s.klen);
