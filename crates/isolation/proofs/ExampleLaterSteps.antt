@@ -20,7 +20,7 @@ use Rattle.bitcask.specs.entry.Reading.{wordAt, headAt, entryAt}
 use Rattle.bitcask.specs.keydir.Slots.{tableOf, wordsOf, keyOf, valueOf, insertAt, replaceAt, removeAt}
 use Rattle.bitcask.specs.keydir.Place.{placeIn}
 use Rattle.bitcask.specs.declared.request.Changed.the-variants.{Refused}
-use Rattle.bitcask.specs.recovery.Map.{lookIn, putIn, cutIn, after}
+use Rattle.bitcask.specs.recovery.Map.{lookIn, putIn, cutIn, after, pairsOf, liveIn}
 use Rattle.bitcask.specs.recovery.Recover.{items, itemsOf, ends, step, fold, recovered, view, mapOf, stepIn, run}
 use Rattle.bitcask.specs.recovery.Agree.{fit}
 use Rattle.bitcask.specs.recovery.Promises.{Opens, openAnswer, openTable}
@@ -39,23 +39,23 @@ use Rattle.mvcc.specs.handle.Handles.{handleOf, setOf, soundHandle, rising, see
 use Rattle.mvcc.specs.payload.Payloads.{setBytes, setIn, versionsOf, setFor, versionIn, valueBytes, valueIn}
 use Rattle.mvcc.specs.delete_range.Cuts.{Extends}
 use Rattle.mvcc.specs.request.Given.{begunWith}
-use Rattle.mvcc.specs.request.Ranges.{pairsOf, begins, inside, keep}
-use Rattle.mvcc.specs.request.Looks.{liveIn}
+use Rattle.bitcask.specs.engine.Prefixes.{begins}
+use Rattle.bitcask.specs.engine.Rows.{rowsOf, rowsIn}
+use Rattle.bitcask.specs.engine.Ranges.{keepRows, inside}
 use Rattle.mvcc.specs.request.Checks.{openBy, ownVersion, admitBy}
 use Rattle.mvcc.specs.snapshot.Active.{nextAt, nextOf, activeAt, activeKeys, activeIn, versionsIn, keysOf}
 use Rattle.mvcc.specs.start.Plan.{planBy, snapshotBy}
 use Rattle.mvcc.specs.as_of.Answers.{snapshotRead}
 use Rattle.mvcc.specs.read_only.Promises.{BeginsReading}
 use Rattle.mvcc.specs.as_of.Promises.{BeginsAsOf}
-use Rattle.mvcc.specs.version.Seen.{lastSeen, seenIn, valueSays}
+use Rattle.mvcc.specs.version.Seen.{lastRows, seenRow, rowSays, recordRow}
 use Rattle.mvcc.specs.read.Promises.{Gets, getAnswer}
 use Rattle.mvcc.specs.write.Writes.{plan, allowBy}
 use Rattle.mvcc.specs.conflict.Conflicts.{searchBy, searched, seenBytes}
 use Rattle.mvcc.specs.append.Lays.{sizesBy}
 use Rattle.mvcc.specs.write.Promises.{Writes, writeAnswer, mayWrite}
 use Rattle.mvcc.specs.undo.Plans.{undosOf, userIn, allUsers}
-use Rattle.mvcc.specs.walk.Rows.{rowIn, heldIn, valueHeld}
-use Rattle.mvcc.specs.walk.Walks.{sameString, walkIn, stepIn as walkStep}
+use Rattle.mvcc.specs.walk.Walks.{sameString, walkRows, stepRows}
 use Rattle.mvcc.specs.scan.Promises.{Scans, scanAnswer, keysBy}
 use Rattle.mvcc.specs.end.Plans.{rollbackPlan, writesOf}
 use Rattle.mvcc.specs.end.Promises.{RollsBack, rollbackAnswer, undoAnswer, among}
@@ -150,9 +150,9 @@ unfolding blank vacant log₁ log₂ log₃ log₄ log₅ log₆ table₁ table�
     escapeByte unescaped scanned decodeWhy readKey stringAt onEnded exactly bytesOf lengthOf wordAt headAt entryAt tableOf wordsOf keyOf valueOf insertAt
     replaceAt removeAt placeIn lookIn putIn cutIn after items itemsOf ends step fold recovered view mapOf stepIn run fit openAnswer openTable sizeAll
     bytesAll afterAll appendAnswer entriesOf handleOf setOf soundHandle rising sees memb lowestOf firstOr setBytes setIn versionsOf setFor versionIn
-    valueBytes valueIn pairsOf begins inside keep liveIn openBy ownVersion admitBy nextAt nextOf activeAt activeKeys activeIn versionsIn keysOf planBy
-    snapshotBy snapshotRead lastSeen seenIn valueSays getAnswer plan allowBy sizesBy searchBy searched seenBytes writeAnswer mayWrite writesOf among
-    log₇ log₈ log₉ table₇ table₈ table₉ wide narrow scanAnswer keysBy walkStep walkIn rowIn heldIn valueHeld sameString admitted undosOf userIn
+    valueBytes valueIn pairsOf begins inside rowsOf rowsIn keepRows liveIn openBy ownVersion admitBy nextAt nextOf activeAt activeKeys activeIn versionsIn keysOf planBy
+    snapshotBy snapshotRead lastRows seenRow rowSays getAnswer plan allowBy sizesBy searchBy searched seenBytes writeAnswer mayWrite writesOf among
+    log₇ log₈ log₉ table₇ table₈ table₉ wide narrow scanAnswer keysBy stepRows walkRows recordRow sameString admitted undosOf userIn
     allUsers rollbackPlan rollbackAnswer undoAnswer
 laters =
     record {

@@ -22,7 +22,7 @@ use Rattle.bitcask.specs.keydir.Place.{placeIn}
 use Rattle.bitcask.specs.declared.request.Used.{Used}
 use Rattle.bitcask.specs.declared.request.Changed.{Changed}
 use Rattle.bitcask.specs.declared.request.Changed.the-variants.{Done, Refused}
-use Rattle.bitcask.specs.recovery.Map.{lookIn, putIn, cutIn, after}
+use Rattle.bitcask.specs.recovery.Map.{lookIn, putIn, cutIn, after, pairsOf, liveIn}
 use Rattle.bitcask.specs.recovery.Recover.{items, itemsOf, ends, step, fold, recovered, view, mapOf, stepIn, run}
 use Rattle.bitcask.specs.recovery.Agree.{fit}
 use Rattle.bitcask.specs.recovery.Promises.{Opens, openAnswer, openTable}
@@ -37,15 +37,16 @@ use Rattle.mvcc.specs.payload.Payloads.{setBytes, setIn, versionsOf, setFor, ve
 use Rattle.mvcc.specs.delete_range.Cuts.{Extends}
 use Rattle.mvcc.specs.delete_range.Plans.{cutsOf}
 use Rattle.mvcc.specs.request.Given.{begunWith}
-use Rattle.mvcc.specs.request.Ranges.{pairsOf, begins, inside, keep}
-use Rattle.mvcc.specs.request.Looks.{liveIn}
+use Rattle.bitcask.specs.engine.Prefixes.{begins}
+use Rattle.bitcask.specs.engine.Rows.{rowsOf, rowsIn}
+use Rattle.bitcask.specs.engine.Ranges.{keepRows, inside}
 use Rattle.mvcc.specs.request.Checks.{openBy, ownVersion, admitBy}
 use Rattle.mvcc.specs.snapshot.Active.{nextAt, nextOf, activeAt, activeKeys, activeIn, versionsIn, keysOf}
 use Rattle.mvcc.specs.start.Plan.{planBy, snapshotBy}
 use Rattle.mvcc.specs.as_of.Answers.{snapshotRead}
 use Rattle.mvcc.specs.start.Promises.{Begins}
 use Rattle.mvcc.specs.as_of.Promises.{BeginsAsOf}
-use Rattle.mvcc.specs.version.Seen.{lastSeen, seenIn, valueSays}
+use Rattle.mvcc.specs.version.Seen.{lastRows, seenRow, rowSays}
 use Rattle.mvcc.specs.read.Promises.{Gets, getAnswer}
 use Rattle.mvcc.specs.write.Writes.{plan, allowBy}
 use Rattle.mvcc.specs.conflict.Conflicts.{searchBy, searched, seenBytes}
@@ -195,8 +196,8 @@ unfolding blank vacant log₁ log₂ log₃ log₄ log₅ log₆ table₁ table�
     escapeByte scanned decodeWhy readKey stringAt onEnded exactly bytesOf lengthOf wordAt headAt entryAt tableOf wordsOf keyOf valueOf insertAt
     replaceAt removeAt placeIn lookIn putIn cutIn after items itemsOf ends step fold recovered view mapOf stepIn run fit openAnswer openTable sizeAll
     bytesAll afterAll appendAnswer entriesOf handleOf setOf soundHandle rising sees memb lowestOf firstOr setBytes setIn versionsOf setFor versionIn
-    valueBytes valueIn cutsOf pairsOf begins inside keep liveIn openBy ownVersion admitBy nextAt nextOf activeAt activeKeys activeIn versionsIn keysOf
-    planBy snapshotBy snapshotRead lastSeen seenIn valueSays getAnswer plan allowBy sizesBy searchBy searched seenBytes writeAnswer mayWrite
+    valueBytes valueIn cutsOf pairsOf begins inside rowsOf rowsIn keepRows liveIn openBy ownVersion admitBy nextAt nextOf activeAt activeKeys activeIn versionsIn keysOf
+    planBy snapshotBy snapshotRead lastRows seenRow rowSays getAnswer plan allowBy sizesBy searchBy searched seenBytes writeAnswer mayWrite
     commitPlan writesOf commitAnswer among
 contracts =
     record {

@@ -51,8 +51,9 @@ use Rattle.mvcc.specs.read_only.Promises.{BeginsReading, States}
 use Rattle.mvcc.specs.as_of.Promises.{BeginsAsOf}
 use Rattle.mvcc.specs.read.Promises.{Gets, Resumes}
 use Rattle.mvcc.specs.request.Checks.{orElse}
-use Rattle.mvcc.specs.request.Looks.{slotIn}
-use Rattle.mvcc.specs.unversioned.Promises.{slotLocated, GetsUnversioned, plainPlan, SetsPlain}
+use Rattle.bitcask.specs.engine.Rows.{rowsIn}
+use Rattle.bitcask.specs.engine.Spots.{lookRow}
+use Rattle.mvcc.specs.unversioned.Promises.{rowLocated, GetsUnversioned, plainPlan, SetsPlain}
 use Rattle.mvcc.specs.append.Lays.{sizesBy}
 use Rattle.mvcc.specs.write.Writes.{plan}
 use Rattle.mvcc.specs.write.Promises.{Writes}
@@ -176,7 +177,7 @@ module _ {w : World} {T : Calls} (R : Run true w T) where
   -- The unversioned calls: a get answers 4 exactly where the key is over the limit, else 0 or 1 as the map has it; a set answers 4, 5, and then
   -- what the room says, 0, 7 or 8.
   pub plain-get-answers : {k : List ℕ} {r : Located} → GetsUnversioned (w .log) (w .used) (w .table) k r
-      → r ≡ pick (leb (length k) maxKey) (slotLocated (slotIn (w .log) (encode (unversioned k)) (recovered (w .log) (w .used)))) (Got.Refused KeyTooLong)
+      → r ≡ pick (leb (length k) maxKey) (rowLocated (lookRow (encode (unversioned k)) (rowsIn (w .log) (w .used)))) (Got.Refused KeyTooLong)
   plain-get-answers b = plain-gets (run-holds R .kept) run-agrees b
 
   pub plain-set-answers : {k v : List ℕ} {r : Changed} {log t : List ℕ} → SetsPlain (w .log) (w .used) (w .table) k v r log t

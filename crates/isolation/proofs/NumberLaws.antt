@@ -18,7 +18,7 @@ use Rattle.bitcask.specs.entry.Entry.{Entry}
 use Rattle.bitcask.specs.keydir.Slots.{slotWords}
 use Rattle.bitcask.specs.declared.request.Changed.{Changed}
 use Rattle.bitcask.specs.declared.request.Changed.the-variants as Change
-use Rattle.bitcask.specs.recovery.Recover.{run, items, recovered, mapOf}
+use Rattle.bitcask.specs.recovery.Recover.{run, items, mapOf}
 use Rattle.bitcask.specs.recovery.Agree.{fit, Agrees}
 use Rattle.bitcask.specs.recovery.Promises.{openedBy, openAnswer, Opens}
 use Rattle.bitcask.proofs.recovery.AgreeLaws.{Sound as Sized}
@@ -36,8 +36,9 @@ use Rattle.mvcc.specs.declared.begun.Begun.{Begun}
 use Rattle.mvcc.specs.request.Checks.{orElse, openIn}
 use Rattle.mvcc.specs.request.Lists.{Dels}
 use Rattle.mvcc.specs.read.Promises.{Gets, checked, getAnswer}
-use Rattle.mvcc.specs.request.Looks.{slotIn}
-use Rattle.mvcc.specs.unversioned.Promises.{slotLocated, unversionedAnswer, GetsUnversioned, plainPlan, plainAnswer, SetsPlain}
+use Rattle.bitcask.specs.engine.Rows.{rowsIn}
+use Rattle.bitcask.specs.engine.Spots.{lookRow}
+use Rattle.mvcc.specs.unversioned.Promises.{rowLocated, unversionedAnswer, GetsUnversioned, plainPlan, plainAnswer, SetsPlain}
 use Rattle.mvcc.specs.append.Lays.{sizesBy}
 use Rattle.mvcc.specs.write.Writes.{allowBy}
 use Rattle.mvcc.specs.write.Promises.{Writes, writeAnswer}
@@ -111,7 +112,7 @@ module _ {w : World} {T : Calls} {m : Map} (k : Kept w T m) (a : Ready w) where
   compact-exact b = b .answer a ∙ rw (a .sound)
 
   pub plain-gets : {key : List ℕ} {r : Located} → GetsUnversioned (w .log) (w .used) (w .table) key r
-      → r ≡ pick (leb (length key) maxKey) (slotLocated (slotIn (w .log) (encode (unversioned key)) (recovered (w .log) (w .used)))) (Got.Refused KeyTooLong)
+      → r ≡ pick (leb (length key) maxKey) (rowLocated (lookRow (encode (unversioned key)) (rowsIn (w .log) (w .used)))) (Got.Refused KeyTooLong)
   unfolding unversionedAnswer
   plain-gets b = b .answer a ∙ rw (a .sound)
 

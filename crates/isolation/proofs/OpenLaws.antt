@@ -8,10 +8,9 @@ use native.Mathlib.Omega.{arith}
 use borrow.Author.Tests.{ne-eqb}
 use Rattle.keycode.specs.Tests.{pick}
 use Rattle.keycode.specs.key.Keys.{txnActive}
-use Rattle.bitcask.specs.recovery.Map.{Pair}
+use Rattle.bitcask.specs.recovery.Map.{Pair, liveIn}
 use Rattle.bitcask.specs.declared.append.Check.the-variants.{Fine}
 use Rattle.mvcc.specs.declared.handle.Handle.{Handle}
-use Rattle.mvcc.specs.request.Looks.{liveIn}
 use Rattle.mvcc.specs.request.Checks.{activeKey, ownVersion, openBy, admitBy, openIn}
 use Rattle.isolation.specs.history.Records.{Map, look}
 use Rattle.isolation.specs.history.Store.{isSome}

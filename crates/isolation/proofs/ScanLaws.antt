@@ -9,7 +9,7 @@ use Rattle.keycode.specs.Order.{compareBytes}
 use Rattle.keycode.specs.Strings.{escapeBody}
 use Rattle.keycode.specs.declared.parts.Part.{Part}
 use Rattle.keycode.specs.declared.order.Order.the-variants.{Less}
-use Rattle.bitcask.specs.recovery.Map.{Pair}
+use Rattle.bitcask.specs.recovery.Map.{Pair, pairsOf}
 use Rattle.bitcask.specs.recovery.Recover.{mapOf}
 use Rattle.bitcask.specs.declared.append.Check.{Check}
 use Rattle.bitcask.specs.declared.append.Check.the-variants.{Fine}
@@ -19,7 +19,6 @@ use Rattle.bitcask.specs.declared.answers.Stepped.the-variants as Step
 use Rattle.bitcask.specs.read.Promises.{steppedNumber}
 use Rattle.bitcask.specs.read.Ranks.{admitted}
 use Rattle.mvcc.specs.declared.handle.Handle.{Handle}
-use Rattle.mvcc.specs.request.Ranges.{pairsOf}
 use Rattle.mvcc.proofs.request.CheckLaws.{not-done}
 use Rattle.mvcc.specs.scan.Bounds.{keysFit, prefixFits}
 use Rattle.mvcc.specs.scan.Steps.{Given, stepPairs, stepNumber, Shows}

@@ -13,18 +13,19 @@ use Rattle.keycode.specs.Limits.{maxKey}
 use Rattle.keycode.specs.declared.refusal.Refusal.the-variants.{Absent, KeyTooLong}
 use Rattle.keycode.specs.declared.parts.Part.{Part}
 use Rattle.keycode.proofs.Basics.{nope}
-use Rattle.bitcask.specs.recovery.Map.{Pair}
-use Rattle.bitcask.specs.recovery.Recover.{recovered, mapOf}
+use Rattle.bitcask.specs.recovery.Map.{Pair, pairsOf}
+use Rattle.bitcask.specs.recovery.Recover.{mapOf}
+use Rattle.bitcask.specs.engine.Rows.{rowsIn}
+use Rattle.bitcask.specs.engine.Ranges.{keepRows}
 use Rattle.bitcask.specs.recovery.Agree.{fit}
 use Rattle.bitcask.specs.declared.answers.Located.{Located}
 use Rattle.bitcask.specs.declared.answers.Located.the-variants as Got
 use Rattle.mvcc.specs.declared.handle.Handle.{Handle}
 use Rattle.mvcc.specs.handle.Handles.{soundHandle}
-use Rattle.mvcc.specs.request.Ranges.{keep, pairsOf}
 use Rattle.mvcc.specs.request.Checks.{admitBy, openIn}
 use Rattle.mvcc.specs.declared.version.Seen.{Seen}
 use Rattle.mvcc.specs.declared.version.Seen.the-variants.{Hidden, Gone, Bad, Value}
-use Rattle.mvcc.specs.version.Seen.{lastSeen, locatedSeen, versionTest, valueFor}
+use Rattle.mvcc.specs.version.Seen.{lastRows, locatedSeen, versionTest, valueFor}
 use Rattle.mvcc.specs.read.Promises.{checked, getAnswer, Gets}
 use Rattle.mvcc.proofs.read.ShowLaws.{get-shows, get-none, get-broken}
 use Rattle.isolation.specs.history.History.{Key, Bytes, isOpen}
@@ -86,7 +87,7 @@ module _ {w : World} {T : Calls} {m : Map} (k : Kept w T m) (a : Ready w) {h : H
   value-is = ap (λ (x : List Pair). valueFor h (pairsOf (versionTest key (h .version)) x)) (k .map) ∙ value-pairs h key (sound .fits) (k .fine) ∙ ap some (sees-shown k s u key)
 
   abbrev seen : Seen
-  seen = lastSeen h (w .log) (keep (versionTest key (h .version)) (w .log) (recovered (w .log) (w .used)))
+  seen = lastRows h (keepRows (versionTest key (h .version)) (rowsIn (w .log) (w .used)))
 
   located : r ≡ locatedSeen seen
   unfolding getAnswer

@@ -21,7 +21,7 @@ use Rattle.keycode.specs.key.Keys.{txnActive}
 use Rattle.bitcask.specs.declared.request.Used.{Used}
 use Rattle.bitcask.specs.declared.request.Changed.{Changed}
 use Rattle.bitcask.specs.declared.request.Changed.the-variants as Change
-use Rattle.bitcask.specs.recovery.Map.{Pair}
+use Rattle.bitcask.specs.recovery.Map.{Pair, pairsOf, liveIn}
 use Rattle.bitcask.specs.recovery.Recover.{mapOf}
 use Rattle.bitcask.specs.recovery.Agree.{fit, Agrees}
 use Rattle.bitcask.specs.recovery.Promises.{changedNumber}
@@ -31,8 +31,6 @@ use Rattle.bitcask.specs.change.Append.{sizeAll, bytesAll, afterAll, appendAnsw
 use Rattle.mvcc.specs.declared.handle.Handle.{Handle}
 use Rattle.mvcc.specs.handle.Handles.{soundHandle}
 use Rattle.mvcc.specs.payload.Payloads.{valueBytes}
-use Rattle.mvcc.specs.request.Ranges.{pairsOf}
-use Rattle.mvcc.specs.request.Looks.{liveIn}
 use Rattle.mvcc.specs.request.Checks.{activeKey, openBy, orElse}
 use Rattle.mvcc.specs.append.Lays.{sizesBy}
 use Rattle.mvcc.specs.write.Writes.{allowBy, plan}

@@ -1,6 +1,7 @@
 -- The laws of how transactions end.
 pub mod EndLaws
-pub mod CommitLaws
+pub mod EarlyLaws
+pub mod CloseLaws
+pub mod FinishLaws
 pub mod Unique
-pub mod RollbackLaws
 pub mod RollbackUnique

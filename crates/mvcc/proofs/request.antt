@@ -1,8 +1,6 @@
 -- The laws that the transaction calls cite.
-pub mod RangeLaws
 pub mod LookLaws
 pub mod CheckLaws
 pub mod ListLaws
 pub mod FitLaws
-pub mod SpanLaws
 pub mod RecordLaws

@@ -1,6 +1,5 @@
 -- The laws of a transaction's writes undone.
 pub mod UndoKeyLaws
 pub mod UndoStepLaws
-pub mod UndoRangeLaws
 pub mod UndoTurnLaws
 pub mod UndoAgreeLaws

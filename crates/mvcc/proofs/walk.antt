@@ -1,3 +1,3 @@
 -- The laws of a scan's walk.
-pub mod RowLaws
+pub mod UpLaws
 pub mod WalkLaws

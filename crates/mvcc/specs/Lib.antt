@@ -18,3 +18,4 @@ pub mod delete_range
 pub mod undo
 pub mod end
 pub mod world
+pub mod admission

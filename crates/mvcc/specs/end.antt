@@ -1,3 +1,4 @@
 -- The definitions of how transactions end.
 pub mod Plans
 pub mod Promises
+pub mod Ways

@@ -4,43 +4,43 @@ use crate::begun::Begun;
 use crate::begun::given;
 use crate::begun::refused;
 use crate::handle::Handle;
-use crate::lookup::Slotted;
-use crate::lookup::slot_of;
 use crate::payload::SetAnswer;
 use crate::payload::SetRead;
 use crate::payload::VersionRead;
 use crate::payload::read_set;
 use crate::snapshot::next_version;
 use bitcask::Used;
-use bitcask::keydir::count;
-use bitcask::keydir::value_of;
-use bitcask::request::fits;
+use bitcask::engine::Entered;
+use bitcask::engine::Found;
+use bitcask::engine::Mark;
+use bitcask::engine::enter;
+use bitcask::engine::row::value_at;
+use bitcask::engine::spot::find;
 use keycode::Refusal;
 use keycode::code::snapshot_code;
 ghost use mathlib.Core.Path.{_≡_};
-ghost use Prim.Native.Nat.{_*_, _≤_};
-ghost use lib.ListN.{length};
 ghost use Rattle.keycode.specs.key.Keys.{encode, txnActiveSnapshot};
-ghost use Rattle.bitcask.specs.keydir.Slots.{slotWords, slotsOf};
-ghost use Rattle.mvcc.specs.request.Looks.{slotOf, slotValue};
+ghost use Rattle.bitcask.specs.engine.Marks.{Held};
+ghost use Rattle.bitcask.specs.engine.Rows.{rows};
+ghost use Rattle.bitcask.specs.engine.Spots.{lookRow, rowValue};
 ghost use Rattle.mvcc.specs.as_of.Answers.{snapshotRead};
 ghost use Rattle.mvcc.specs.as_of.Promises.{BeginsAsOf};
 
 // The handle of a version with its snapshot; an empty set where there is none.
-fn stored(log: &[u8], table: &[u32], count: usize, version: u64) -> SetRead
-    requires { ⌜ slotWords * count ≤ length (now table) ⌝ }
-    ensures { λ r. ⌜ r ≡ snapshotRead version (slotValue (now (log .entry)) (slotOf (now (log .entry)) (encode (txnActiveSnapshot version)) (slotsOf count (now (table .entry))))) ⌝ }
+fn stored(log: &[u8], table: &[u32], mark: Mark, version: u64) -> SetRead
+    requires { ⌜ Held (now log) (now table) mark ⌝ }
+    ensures { λ r. ⌜ r ≡ snapshotRead version (rowValue (lookRow (encode (txnActiveSnapshot version)) (rows (now (log .entry)) (now (table .entry)) mark))) ⌝ }
 {
     let handle = Handle::fresh(version, true);
     let code = snapshot_code(version);
     let bytes = code.bytes;
     let n = code.len;
-    match slot_of(log, table, count, &bytes[..n]) {
-        Slotted::None => SetRead {
+    match find(log, table, mark, &bytes[..n]) {
+        Found::Absent(_) => SetRead {
             answer: SetAnswer::Fine,
             handle,
         },
-        Slotted::At(s) => read_set(value_of(log, s), handle),
+        Found::At(p) => read_set(value_at(log, table, mark, p), handle),
     }
 }
 
@@ -48,25 +48,22 @@ fn stored(log: &[u8], table: &[u32], count: usize, version: u64) -> SetRead
 pub fn begin_as_of(log: &[u8], used: Used, table: &[u32], version: u64) -> Begun
     ensures { λ r. ⌜ BeginsAsOf (now (log .entry)) (used .len) (now (table .entry)) version r ⌝ }
 {
-    let at = used.len;
-    let good = fits(log.len(), at, table.len());
-    if !good {
-        return refused(Refusal::BadRequest);
-    }
-    let n = count(table);
-    match next_version(log, table, n) {
-        VersionRead::Bad => refused(Refusal::BadStore),
-        VersionRead::Read(next) => {
-            if next <= version {
-                return refused(Refusal::NoSuchVersion);
+    match enter(log, used, table) {
+        Entered::Refused(r) => refused(r),
+        Entered::In(mark) => match next_version(log, table, mark) {
+            VersionRead::Bad => refused(Refusal::BadStore),
+            VersionRead::Read(next) => {
+                if next <= version {
+                    return refused(Refusal::NoSuchVersion);
+                }
+                let read = stored(log, table, mark, version);
+                let answer = read.answer;
+                let handle = read.handle;
+                match answer {
+                    SetAnswer::Fine => given(used, handle),
+                    SetAnswer::Refused(r) => refused(r),
+                }
             }
-            let read = stored(log, table, n, version);
-            let answer = read.answer;
-            let handle = read.handle;
-            match answer {
-                SetAnswer::Fine => given(at, handle),
-                SetAnswer::Refused(r) => refused(r),
-            }
-        }
+        },
     }
 }

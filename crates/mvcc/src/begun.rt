@@ -22,11 +22,11 @@ pub(crate) fn refused(r: Refusal) -> Begun
     }
 }
 
-pub(crate) fn given(len: usize, handle: Handle) -> Begun
-    ensures { λ b. ⌜ b ≡ begunWith len handle ⌝ }
+pub(crate) fn given(used: Used, handle: Handle) -> Begun
+    ensures { λ b. ⌜ b ≡ begunWith (used .len) handle ⌝ }
 {
     Begun {
-        answer: Changed::Done(Used { len }),
+        answer: Changed::Done(used),
         handle,
     }
 }

@@ -1,19 +1,16 @@
 // The transactions: every public call of toydb's storage/mvcc.rs, with the types that they take and answer. Document 01,
 // 'Transactions'.
+mod admission;
 pub mod append;
 pub mod as_of;
 pub mod begun;
 mod conflict;
-mod delete_range;
 pub mod end;
 pub mod handle;
-mod lookup;
 pub mod payload;
-mod range;
 pub mod read;
 pub mod read_only;
 pub mod report;
-pub mod request;
 pub mod scan;
 mod snapshot;
 pub mod start;

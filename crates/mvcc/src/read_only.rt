@@ -5,8 +5,8 @@ use crate::begun::refused;
 use crate::snapshot::Tally;
 use crate::snapshot::look_round;
 use bitcask::Used;
-use bitcask::keydir::count;
-use bitcask::request::fits;
+use bitcask::engine::Entered;
+use bitcask::engine::enter;
 use keycode::Refusal;
 use keycode::limits::MAX_OPEN;
 ghost use Rattle.mvcc.specs.read_only.Promises.{BeginsReading};
@@ -15,22 +15,21 @@ ghost use Rattle.mvcc.specs.read_only.Promises.{BeginsReading};
 pub fn begin_read_only(log: &[u8], used: Used, table: &[u32]) -> Begun
     ensures { λ r. ⌜ BeginsReading (now (log .entry)) (used .len) (now (table .entry)) r ⌝ }
 {
-    let at = used.len;
-    let good = fits(log.len(), at, table.len());
-    if !good {
-        return refused(Refusal::BadRequest);
-    }
-    let n = count(table);
-    let seen = look_round(log, table, n, true);
-    let tally = seen.tally;
-    match tally {
-        Tally::Bad => refused(Refusal::BadStore),
-        Tally::Open(k) => {
-            if MAX_OPEN < k {
-                return refused(Refusal::TooManyOpen);
+    match enter(log, used, table) {
+        Entered::Refused(r) => refused(r),
+        Entered::In(mark) => {
+            let seen = look_round(log, table, mark, true);
+            let tally = seen.tally;
+            match tally {
+                Tally::Bad => refused(Refusal::BadStore),
+                Tally::Open(k) => {
+                    if MAX_OPEN < k {
+                        return refused(Refusal::TooManyOpen);
+                    }
+                    let handle = seen.handle;
+                    given(used, handle)
+                }
             }
-            let handle = seen.handle;
-            given(at, handle)
         }
     }
 }

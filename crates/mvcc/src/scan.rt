@@ -3,15 +3,15 @@ pub(crate) mod bounds;
 pub(crate) mod checks;
 pub(crate) mod prefix;
 
+use crate::admission::Admitted;
+use crate::admission::admit;
 use crate::handle::Handle;
 use crate::scan::bounds::step_between;
-use crate::scan::checks::admit_keys;
 use crate::scan::checks::keys_fit;
 use bitcask::Bound;
 use bitcask::Stepped;
 use bitcask::Used;
-use bitcask::append::Check;
-use bitcask::keydir::count;
+use keycode::Refusal;
 ghost use Rattle.mvcc.specs.scan.Promises.{Scans};
 
 pub fn scan_step(
@@ -28,12 +28,25 @@ pub fn scan_step(
 ) -> Stepped
     ensures { λ r. ⌜ Scans (now (log .entry)) (used .len) (now (table .entry)) handle lower (now (low .entry)) upper (now (high .entry)) given (now (last .entry)) r ⌝ }
 {
-    let fits = keys_fit(lower, low, upper, high, given, last);
-    match admit_keys(log, used, table, handle, fits) {
-        Check::Refused(r) => Stepped::Refused(r),
-        Check::Fine => {
-            let n = count(table);
-            step_between(log, table, n, handle, lower, low, upper, high, given, last)
+    match admit(log, used, table, handle) {
+        Admitted::Refused(r) => Stepped::Refused(r),
+        Admitted::Fine(mark) => {
+            if keys_fit(lower, low, upper, high, given, last) {
+                step_between(
+                    log,
+                    table,
+                    mark,
+                    handle,
+                    lower,
+                    low,
+                    upper,
+                    high,
+                    given,
+                    last,
+                )
+            } else {
+                Stepped::Refused(Refusal::KeyTooLong)
+            }
         }
     }
 }

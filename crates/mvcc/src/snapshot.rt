@@ -1,22 +1,33 @@
 // What a begin reads: NextVersion, and the versions open, which are all live keys that begin with the tag of TxnActive.
 use crate::handle::Handle;
-use crate::lookup::Slotted;
-use crate::lookup::slot_of;
 use crate::payload::VERSION_BYTES;
 use crate::payload::VersionRead;
 use crate::payload::read_version;
-use crate::range::active_range;
-use bitcask::keydir::key_of;
-use bitcask::keydir::slot_at;
-use bitcask::keydir::value_of;
+use bitcask::engine::Found;
+use bitcask::engine::Mark;
+use bitcask::engine::Span;
+use bitcask::engine::row::key_at;
+use bitcask::engine::row::value_at;
+use bitcask::engine::span::prefix_span;
+use bitcask::engine::spot::find;
+use bitcask::engine::spot::meet;
+use bitcask::engine::spot::next;
 use keycode::code::next_version_code;
 use keycode::number::get_number;
 use keycode::parts::clip;
 ghost use mathlib.Core.Path.{_≡_};
-ghost use Prim.Native.Nat.{_+_, _*_, _≤_};
-ghost use lib.ListN.{length, drop};
-ghost use Rattle.bitcask.specs.keydir.Slots.{slotWords, slotAt, slotsOf, keyOf};
-ghost use Rattle.mvcc.specs.snapshot.Active.{nextBy, nextIn, activeIn, keysIn, versionsIn, activeSlots, badSeen, seenFrom, seenBy};
+ghost use Prim.Native.Nat.{_≤_};
+ghost use lib.ListN.{length};
+ghost use Rattle.bitcask.specs.engine.Marks.{Held};
+ghost use Rattle.bitcask.specs.engine.Rows.{rows};
+ghost use Rattle.bitcask.specs.engine.Spots.{rank};
+ghost use Rattle.bitcask.specs.engine.Ranges.{between};
+ghost use Rattle.bitcask.specs.engine.Prefixes.{Prefixes};
+ghost use Rattle.mvcc.specs.request.Ranges.{activePrefix};
+ghost use Rattle.mvcc.specs.snapshot.Active.{nextBy, nextIn, activeIn, keysIn, versionsIn, activeRows, badSeen, seenFrom, seenBy};
+
+// The first byte of every TxnActive key.
+const ACTIVE_TAG: u8 = 1;
 
 // How many versions are open, or that a key is none of theirs.
 pub enum Tally {
@@ -46,16 +57,16 @@ fn positive(read: VersionRead) -> VersionRead
 }
 
 // The next version; a missing record means 1.
-pub(crate) fn next_version(log: &[u8], table: &[u32], count: usize) -> VersionRead
-    requires { ⌜ slotWords * count ≤ length (now table) ⌝ }
-    ensures { λ r. ⌜ r ≡ nextIn (now (log .entry)) (slotsOf count (now (table .entry))) ⌝ }
+pub(crate) fn next_version(log: &[u8], table: &[u32], mark: Mark) -> VersionRead
+    requires { ⌜ Held (now log) (now table) mark ⌝ }
+    ensures { λ r. ⌜ r ≡ nextIn (rows (now (log .entry)) (now (table .entry)) mark) ⌝ }
 {
     let code = next_version_code();
     let bytes = code.bytes;
     let n = code.len;
-    match slot_of(log, table, count, &bytes[..n]) {
-        Slotted::None => VersionRead::Read(1),
-        Slotted::At(s) => positive(read_version(value_of(log, s))),
+    match find(log, table, mark, &bytes[..n]) {
+        Found::Absent(_) => VersionRead::Read(1),
+        Found::At(p) => positive(read_version(value_at(log, table, mark, p))),
     }
 }
 
@@ -69,14 +80,6 @@ fn version_in(key: &[u8]) -> VersionRead
     VersionRead::Read(get_number(clip(key, 1, VERSION_BYTES)))
 }
 
-// The version of the i-th slot's key.
-fn version_at(log: &[u8], table: &[u32], i: usize) -> VersionRead
-    requires { ⌜ slotWords * i + slotWords ≤ length (now table) ⌝ }
-    ensures { λ r. ⌜ r ≡ activeIn (keyOf (now (log .entry)) (slotAt (now (table .entry)) i)) ⌝ }
-{
-    version_in(key_of(log, slot_at(table, i)))
-}
-
 fn bad_seen() -> Seen
     ensures { λ r. ⌜ r ≡ badSeen ⌝ }
 {
@@ -87,16 +90,32 @@ fn bad_seen() -> Seen
     }
 }
 
-// The versions of the slots from one number to another into a handle. All are looked at, however many it has room for.
-fn gather(log: &[u8], table: &[u32], from: usize, to: usize, start: Handle) -> Seen
-    requires { ⌜ slotWords * to ≤ length (now table) ⌝ }
-    ensures { λ r. ⌜ r ≡ seenFrom 0 start (versionsIn (keysIn (now (log .entry)) (drop from (slotsOf to (now (table .entry)))))) ⌝ }
+// The rows of the open versions.
+pub(crate) fn open_span(log: &[u8], table: &[u32], mark: Mark) -> Span
+    requires { ⌜ Held (now log) (now table) mark ⌝ }
+    ensures { λ r. ⌜ Prefixes (rows (now (log .entry)) (now (table .entry)) mark) activePrefix r ⌝ }
 {
+    let tag = [ACTIVE_TAG; 1];
+    prefix_span(log, table, mark, &tag)
+}
+
+// The versions of a span's rows into a handle. All are looked at, however many it has room for.
+fn gather(log: &[u8], table: &[u32], mark: Mark, span: Span, start: Handle) -> Seen
+    requires { ⌜ (Held (now log) (now table) mark) × (rank (span .to) (rows (now log) (now table) mark) ≤ length (rows (now log) (now table) mark)) ⌝ }
+    ensures { λ r. ⌜ r ≡ seenFrom 0 start (versionsIn (keysIn (between (span .from) (span .to) (rows (now (log .entry)) (now (table .entry)) mark)))) ⌝ }
+{
+    let to = span.to;
+    let mut at = span.from;
     let mut handle = start;
     let mut n = 0;
-    let mut i = from;
-    while i < to {
-        match version_at(log, table, i) {
+    loop {
+        if meet(log, table, mark, at, to) {
+            return Seen {
+                tally: Tally::Open(n),
+                handle,
+            };
+        }
+        match version_in(key_at(log, table, mark, at)) {
             VersionRead::Bad => {
                 return bad_seen();
             }
@@ -105,31 +124,27 @@ fn gather(log: &[u8], table: &[u32], from: usize, to: usize, start: Handle) -> S
             }
         }
         n += 1;
-        i += 1;
-    }
-    Seen {
-        tally: Tally::Open(n),
-        handle,
+        at = next(log, table, mark, at);
     }
 }
 
 // The open versions into a handle.
-fn actives(log: &[u8], table: &[u32], count: usize, start: Handle) -> Seen
-    requires { ⌜ slotWords * count ≤ length (now table) ⌝ }
-    ensures { λ r. ⌜ r ≡ seenFrom 0 start (versionsIn (keysIn (now (log .entry)) (activeSlots (now (log .entry)) (slotsOf count (now (table .entry)))))) ⌝ }
+fn actives(log: &[u8], table: &[u32], mark: Mark, start: Handle) -> Seen
+    requires { ⌜ Held (now log) (now table) mark ⌝ }
+    ensures { λ r. ⌜ r ≡ seenFrom 0 start (versionsIn (keysIn (activeRows (rows (now (log .entry)) (now (table .entry)) mark)))) ⌝ }
 {
-    let span = active_range(log, table, count);
-    gather(log, table, span.from, span.to, start)
+    let span = open_span(log, table, mark);
+    gather(log, table, mark, span, start)
 }
 
 // The handle of NextVersion with the versions open.
-pub(crate) fn look_round(log: &[u8], table: &[u32], count: usize, read_only: bool) -> Seen
-    requires { ⌜ slotWords * count ≤ length (now table) ⌝ }
-    ensures { λ r. ⌜ r ≡ seenBy «read_only» (nextIn (now (log .entry)) (slotsOf count (now (table .entry))))
-        (versionsIn (keysIn (now (log .entry)) (activeSlots (now (log .entry)) (slotsOf count (now (table .entry)))))) ⌝ }
+pub(crate) fn look_round(log: &[u8], table: &[u32], mark: Mark, read_only: bool) -> Seen
+    requires { ⌜ Held (now log) (now table) mark ⌝ }
+    ensures { λ r. ⌜ r ≡ seenBy «read_only» (nextIn (rows (now (log .entry)) (now (table .entry)) mark))
+        (versionsIn (keysIn (activeRows (rows (now (log .entry)) (now (table .entry)) mark)))) ⌝ }
 {
-    match next_version(log, table, count) {
+    match next_version(log, table, mark) {
         VersionRead::Bad => bad_seen(),
-        VersionRead::Read(v) => actives(log, table, count, Handle::fresh(v, read_only)),
+        VersionRead::Read(v) => actives(log, table, mark, Handle::fresh(v, read_only)),
     }
 }

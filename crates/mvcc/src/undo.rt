@@ -1,18 +1,20 @@
 // The writes of a transaction undone: for each record of a write, the version that it names and the record itself are deleted.
-use crate::delete_range::cut::cut_key;
-use crate::delete_range::cut::cut_many;
-use crate::delete_range::room::room_dels;
-use crate::delete_range::room::width;
+use crate::end::clear::del_key;
 use crate::payload::VERSION_BYTES;
-use crate::range::Span;
 use bitcask::Changed;
-use bitcask::Used;
-use bitcask::append::Mark;
 use bitcask::append::Room;
 use bitcask::append::room_after;
+use bitcask::engine::Mark;
+use bitcask::engine::Span;
+use bitcask::engine::Spot;
+use bitcask::engine::ending::end_at;
+use bitcask::engine::row::key_at;
+use bitcask::engine::span::rows_in;
+use bitcask::engine::span::span_room;
+use bitcask::engine::spot::meet;
+use bitcask::engine::spot::next;
+use bitcask::engine::spot::stands;
 use bitcask::entry::write::copy_into;
-use bitcask::keydir::key_of;
-use bitcask::keydir::slot_at;
 use keycode::Decoded;
 use keycode::Key;
 use keycode::Refusal;
@@ -22,14 +24,15 @@ use keycode::limits::KEY_BYTES;
 use keycode::number::put_number;
 ghost use mathlib.Core.Path.{_≡_};
 ghost use mathlib.Core.Bool.{true};
-ghost use Prim.Native.Nat.{_*_, _≤_, _<_};
+ghost use Prim.Native.Nat.{_≤_};
 ghost use lib.ListN.{length};
-ghost use Rattle.keycode.specs.Limits.{maxLog};
-ghost use Rattle.bitcask.specs.keydir.Slots.{slotWords, slotsOf};
-ghost use Rattle.bitcask.specs.recovery.Recover.{view};
-ghost use Rattle.mvcc.specs.request.Ranges.{slice};
+ghost use Rattle.bitcask.specs.engine.Marks.{Held, markOf};
+ghost use Rattle.bitcask.specs.engine.Rows.{rows, pairs};
+ghost use Rattle.bitcask.specs.engine.Spots.{rank};
+ghost use Rattle.bitcask.specs.engine.Ranges.{between};
 ghost use Rattle.mvcc.specs.undo.Plans.{userIn, isUser, allUsers};
-ghost use Rattle.mvcc.specs.undo.Undo.{Names, undoSlot, undoMany, Undoes};
+ghost use Rattle.mvcc.specs.undo.Undo.{Names, endWhere, undoRow, undoMany, Undoes};
+ghost use Rattle.mvcc.specs.end.Ways.{storeOf};
 
 // The first byte of a Version key.
 const VERSION_TAG: u8 = 4;
@@ -54,20 +57,22 @@ fn is_write(bytes: &[u8]) -> bool
     }
 }
 
-// Whether every key of a range is one.
-fn all_writes(log: &[u8], table: &[u32], count: usize, span: Span) -> bool
-    requires { ⌜ (slotWords * count ≤ length (now table)) × (span .to ≤ count) ⌝ }
-    ensures { λ r. ⌜ r ≡ allUsers (view (now (log .entry)) (slice (span .from) (span .to) (slotsOf count (now (table .entry))))) ⌝ }
+// Whether every key of a span is one.
+fn all_writes(log: &[u8], table: &[u32], mark: Mark, span: Span) -> bool
+    requires { ⌜ (Held (now log) (now table) mark) × (rank (span .to) (rows (now log) (now table) mark) ≤ length (rows (now log) (now table) mark)) ⌝ }
+    ensures { λ r. ⌜ r ≡ allUsers (pairs (between (span .from) (span .to) (rows (now (log .entry)) (now (table .entry)) mark))) ⌝ }
 {
     let to = span.to;
-    let mut i = span.from;
-    while i < to {
-        if !is_write(key_of(log, slot_at(table, i))) {
+    let mut at = span.from;
+    loop {
+        if meet(log, table, mark, at, to) {
+            return true;
+        }
+        if !is_write(key_at(log, table, mark, at)) {
             return false;
         }
-        i += 1;
+        at = next(log, table, mark, at);
     }
-    true
 }
 
 // The Version key that a TxnWrite key names: the user key stands in both, escaped and ended.
@@ -82,75 +87,94 @@ fn named_code(write: &[u8], version: u64) -> Code
     Code { len: n, bytes }
 }
 
-// The write that the i-th slot's key records, undone. Other keys stay: the callers ask before, so that there are none.
-fn undo_slot(log: &mut [u8], table: &mut [u32], mark: Mark, i: usize, version: u64) -> Mark
-    requires { ⌜ (i < mark .count) × (slotWords * mark .count ≤ length (now table)) × (mark .used ≤ length (now log)) × (length (now log) ≤ maxLog) ⌝ }
-    ensures { λ r. ⌜ record { log = now (log .exit); used = r .used; table = now (table .exit); count = r .count }
-        ≡ undoSlot (record { log = now (log .entry); used = mark .used; table = now (table .entry); count = mark .count }) i version ⌝ }
+// The row at a place ended, where there is one.
+fn end_row(log: &mut [u8], table: &mut [u32], mark: Mark, spot: Spot) -> Mark
+    requires { ⌜ Held (now log) (now table) mark ⌝ }
+    ensures { λ r. ⌜ storeOf (now (log .exit)) (now (table .exit)) r
+        ≡ endWhere (storeOf (now (log .entry)) (now (table .entry)) mark) (rank spot (rows (now (log .entry)) (now (table .entry)) mark)) ⌝ }
 {
-    let key = key_of(log, slot_at(table, i));
+    if !stands(log, table, mark, spot) {
+        return mark;
+    }
+    end_at(log, table, mark, spot)
+}
+
+// The write that the key of the row at a place records, undone. Version keys sort behind, so that the row is still there when the version
+// is gone. Other keys stay: the callers ask before, so that there are none.
+fn undo_row(log: &mut [u8], table: &mut [u32], mark: Mark, spot: Spot, version: u64) -> Mark
+    requires { ⌜ Held (now log) (now table) mark ⌝ }
+    ensures { λ r. ⌜ storeOf (now (log .exit)) (now (table .exit)) r
+        ≡ undoRow (storeOf (now (log .entry)) (now (table .entry)) mark) (rank spot (rows (now (log .entry)) (now (table .entry)) mark)) version ⌝ }
+{
+    if !stands(log, table, mark, spot) {
+        return mark;
+    }
+    let key = key_at(log, table, mark, spot);
     if !is_write(key) {
         return mark;
     }
     let code = named_code(key, version);
     let bytes = code.bytes;
     let n = code.len;
-    let mid = cut_key(log, table, mark, &bytes[..n]);
-    cut_many(log, table, mid, i, 1)
+    let mid = del_key(log, table, mark, &bytes[..n]);
+    end_row(log, table, mid, spot)
 }
 
-// The same `n` times: the next slot is the i-th when one is gone.
+// The same `n` times: when a row is gone, the next one stands at its place.
 fn undo_many(
     log: &mut [u8],
     table: &mut [u32],
     mark: Mark,
-    i: usize,
+    spot: Spot,
     n: usize,
     version: u64,
 ) -> Mark
-    requires { ⌜ (slotWords * mark .count ≤ length (now table)) × (mark .used ≤ length (now log)) × (length (now log) ≤ maxLog) ⌝ }
-    ensures { λ r. ⌜ record { log = now (log .exit); used = r .used; table = now (table .exit); count = r .count }
-        ≡ undoMany n (record { log = now (log .entry); used = mark .used; table = now (table .entry); count = mark .count }) i version ⌝ }
+    requires { ⌜ Held (now log) (now table) mark ⌝ }
+    ensures { λ r. ⌜ storeOf (now (log .exit)) (now (table .exit)) r
+        ≡ undoMany n (storeOf (now (log .entry)) (now (table .entry)) mark) (rank spot (rows (now (log .entry)) (now (table .entry)) mark)) version ⌝ }
 {
     let mut left = n;
     let mut last = mark;
     while 0 < left {
-        if last.count <= i {
-            return last;
-        }
-        last = undo_slot(log, table, last, i, version);
+        last = undo_row(log, table, last, spot, version);
         left -= 1;
     }
     last
 }
 
-// The writes of a range undone and then one key more deleted, all or none: 12, then 7.
-pub(crate) fn undo_range(
+// The writes of a span undone and then one key more deleted, all or none: 12, then 7. A Version key is as long as the TxnWrite key that
+// names it, so that the span's room is wanted twice.
+pub(crate) fn undo(
     log: &mut [u8],
-    at: usize,
     table: &mut [u32],
-    n: usize,
+    mark: Mark,
     span: Span,
     version: u64,
     key: &[u8],
 ) -> Changed
-    requires { ⌜ (at ≤ length (now log)) × (length (now log) ≤ maxLog) × (slotWords * n ≤ length (now table)) × (span .to ≤ n) ⌝ }
-    ensures { λ r. ⌜ Undoes (now (log .entry)) at (now (table .entry)) n span version (now (key .entry)) r (now (log .exit)) (now (table .exit)) ⌝ }
+    requires { ⌜ (Held (now log) (now table) mark) × (mark ≡ markOf (mark .used) (now table)) × (rank (span .to) (rows (now log) (now table) mark) ≤ length (rows (now log) (now table) mark)) ⌝ }
+    ensures { λ r. ⌜ Undoes (now (log .entry)) (now (table .entry)) mark (between (span .from) (span .to) (rows (now (log .entry)) (now (table .entry)) mark)) version
+        (now (key .entry)) r (now (log .exit)) (now (table .exit)) ⌝ }
 {
-    let from = span.from;
-    let many = width(span);
-    if !all_writes(log, table, n, span) {
+    if !all_writes(log, table, mark, span) {
         return Changed::Refused(Refusal::BadStore);
     }
-    let once = room_dels(log, table, n, Room::Left(log.len() - at), span);
-    let twice = room_dels(log, table, n, once, span);
+    let once = span_room(
+        log,
+        table,
+        mark,
+        Room::Left(log.len() - mark.used.len),
+        span,
+    );
+    let twice = span_room(log, table, mark, once, span);
     match room_after(twice, key.len(), 0) {
         Room::Full => Changed::Refused(Refusal::LogFull),
         Room::Left(_) => {
-            let mark = Mark { used: at, count: n };
-            let mid = undo_many(log, table, mark, from, many, version);
-            let last = cut_key(log, table, mid, key);
-            Changed::Done(Used { len: last.used })
+            let n = rows_in(log, table, mark, span);
+            let mid = undo_many(log, table, mark, span.from, n, version);
+            let last = del_key(log, table, mid, key);
+            let used = last.used;
+            Changed::Done(used)
         }
     }
 }

@@ -1,31 +1,33 @@
-// A scan's walk over records in the order of their keys, group by group: a group is the versions of one user key. Its answer is the
+// A scan's walk over rows in the order of their keys, group by group: a group is the versions of one user key. Its answer is the
 // first user key that has a value for the handle. Part of toydb's storage/mvcc.rs.
-pub(crate) mod rows;
-
 use crate::handle::Handle;
-use crate::walk::rows::Held;
-use crate::walk::rows::Row;
-use crate::walk::rows::row_of;
+use crate::version::Record;
+use crate::version::Seen;
+use crate::version::record_at;
+use bitcask::Bound;
 use bitcask::Stepped;
-use bitcask::keydir::slots::slot_at;
+use bitcask::engine::Mark;
+use bitcask::engine::Near;
+use bitcask::engine::Spot;
+use bitcask::engine::spot::next;
+use bitcask::engine::walk::row_from;
 use bitcask::part;
 use keycode::Order;
 use keycode::Part;
 use keycode::Refusal;
 use keycode::compare;
 ghost use mathlib.Core.Path.{_≡_};
-ghost use Prim.Native.Nat.{_*_, _≤_};
-ghost use lib.ListN.{length};
-ghost use Rattle.bitcask.specs.keydir.Slots.{slotWords, slotsOf};
-ghost use Rattle.mvcc.specs.request.Ranges.{slice};
-ghost use Rattle.mvcc.specs.walk.Walks.{sameString, heldAnswer, laterHeld, closedBy, spoiltBy, openedBy, withinBy, brokenBy, nextWalk, endedBy, isOver, stepIn};
+ghost use Rattle.bitcask.specs.engine.Marks.{Held};
+ghost use Rattle.bitcask.specs.engine.Rows.{rows};
+ghost use Rattle.bitcask.specs.engine.Spots.{rank};
+ghost use Rattle.mvcc.specs.walk.Walks.{sameString, groupAnswer, laterBy, closedBy, spoiltBy, openedBy, withinBy, brokenBy, nextWalk, endedBy, isOver, upFrom, stepRows};
 
-// Before the first group; within one, with the place of its key and what it holds so far; the same with a key behind it that does not
-// decode; and past the end of the step.
+// Before the first group; within one, with what it says so far and the place of the key that said it; the same with a value and, behind
+// it, a key that does not decode; and past the end of the step.
 pub enum Walk {
     Start,
-    Within(Part, Held),
-    Broken(Part, Held),
+    Within(Part, Seen),
+    Broken(Part, Part),
     Over(Stepped),
 }
 
@@ -40,99 +42,99 @@ fn same_string(log: &[u8], a: Part, b: Part) -> bool
 }
 
 // What a step answers that ends behind a group.
-fn held_answer(held: Held) -> Stepped
-    ensures { λ r. ⌜ r ≡ heldAnswer held ⌝ }
+fn group_answer(key: Part, seen: Seen) -> Stepped
+    ensures { λ r. ⌜ r ≡ groupAnswer key seen ⌝ }
 {
-    match held {
-        Held::Hidden => Stepped::Refused(Refusal::Absent),
-        Held::Gone => Stepped::Refused(Refusal::Absent),
-        Held::Bad => Stepped::Refused(Refusal::BadStore),
-        Held::Pair(key, value) => Stepped::Next { key, value },
+    match seen {
+        Seen::Hidden => Stepped::Refused(Refusal::Absent),
+        Seen::Gone => Stepped::Refused(Refusal::Absent),
+        Seen::Bad => Stepped::Refused(Refusal::BadStore),
+        Seen::Value(value) => Stepped::Next { key, value },
     }
 }
 
-// What a group holds with one version more.
-fn later_held(new: Held, old: Held) -> Held
-    ensures { λ r. ⌜ r ≡ laterHeld new old ⌝ }
+// A group with one version more, at a place k.
+fn later(key: Part, seen: Seen, k: Part, new: Seen) -> Walk
+    ensures { λ r. ⌜ r ≡ laterBy key seen k new ⌝ }
 {
     match new {
-        Held::Hidden => old,
-        Held::Gone => Held::Gone,
-        Held::Bad => Held::Bad,
-        Held::Pair(key, value) => Held::Pair(key, value),
+        Seen::Hidden => Walk::Within(key, seen),
+        Seen::Gone => Walk::Within(k, Seen::Gone),
+        Seen::Bad => Walk::Within(k, Seen::Bad),
+        Seen::Value(v) => Walk::Within(k, Seen::Value(v)),
     }
 }
 
-// A group is past, and the next begins with a key and what its version holds.
-fn closed(old: Held, key: Part, new: Held) -> Walk
-    ensures { λ r. ⌜ r ≡ closedBy key new old ⌝ }
+// A group is past, and the next begins at a place k.
+fn closed(key: Part, seen: Seen, k: Part, new: Seen) -> Walk
+    ensures { λ r. ⌜ r ≡ closedBy key k new seen ⌝ }
 {
-    match old {
-        Held::Hidden => Walk::Within(key, new),
-        Held::Gone => Walk::Within(key, new),
-        Held::Bad => Walk::Over(Stepped::Refused(Refusal::BadStore)),
-        Held::Pair(k, v) => Walk::Over(Stepped::Next { key: k, value: v }),
+    match seen {
+        Seen::Hidden => Walk::Within(k, new),
+        Seen::Gone => Walk::Within(k, new),
+        Seen::Bad => Walk::Over(Stepped::Refused(Refusal::BadStore)),
+        Seen::Value(value) => Walk::Over(Stepped::Next { key, value }),
     }
 }
 
 // A key that does not decode comes behind a group's versions. It is not read where the group gives a pair and none of its versions follows.
-fn spoilt(key: Part, held: Held) -> Walk
-    ensures { λ r. ⌜ r ≡ spoiltBy key held ⌝ }
+fn spoilt(key: Part, seen: Seen) -> Walk
+    ensures { λ r. ⌜ r ≡ spoiltBy key seen ⌝ }
 {
-    match held {
-        Held::Hidden => Walk::Over(Stepped::Refused(Refusal::BadStore)),
-        Held::Gone => Walk::Over(Stepped::Refused(Refusal::BadStore)),
-        Held::Bad => Walk::Over(Stepped::Refused(Refusal::BadStore)),
-        Held::Pair(k, v) => Walk::Broken(key, Held::Pair(k, v)),
+    match seen {
+        Seen::Hidden => Walk::Over(Stepped::Refused(Refusal::BadStore)),
+        Seen::Gone => Walk::Over(Stepped::Refused(Refusal::BadStore)),
+        Seen::Bad => Walk::Over(Stepped::Refused(Refusal::BadStore)),
+        Seen::Value(v) => Walk::Broken(key, v),
     }
 }
 
-fn opened(row: Row) -> Walk
+fn opened(row: Record) -> Walk
     ensures { λ r. ⌜ r ≡ openedBy row ⌝ }
 {
     match row {
-        Row::Junk => Walk::Over(Stepped::Refused(Refusal::BadStore)),
-        Row::Good(key, held) => Walk::Within(key, held),
+        Record::Junk => Walk::Over(Stepped::Refused(Refusal::BadStore)),
+        Record::Good(key, seen) => Walk::Within(key, seen),
     }
 }
 
-fn within(log: &[u8], key: Part, held: Held, row: Row) -> Walk
-    ensures { λ r. ⌜ r ≡ withinBy (now (log .entry)) key held row ⌝ }
+fn within(log: &[u8], key: Part, seen: Seen, row: Record) -> Walk
+    ensures { λ r. ⌜ r ≡ withinBy (now (log .entry)) key seen row ⌝ }
 {
     match row {
-        Row::Junk => spoilt(key, held),
-        Row::Good(k, new) => {
+        Record::Junk => spoilt(key, seen),
+        Record::Good(k, new) => {
             if same_string(log, key, k) {
-                Walk::Within(k, later_held(new, held))
+                later(key, seen, k, new)
             } else {
-                closed(held, k, new)
+                closed(key, seen, k, new)
             }
         }
     }
 }
 
-fn broken(log: &[u8], key: Part, held: Held, row: Row) -> Walk
-    ensures { λ r. ⌜ r ≡ brokenBy (now (log .entry)) key held row ⌝ }
+fn broken(log: &[u8], key: Part, value: Part, row: Record) -> Walk
+    ensures { λ r. ⌜ r ≡ brokenBy (now (log .entry)) key value row ⌝ }
 {
     match row {
-        Row::Junk => Walk::Broken(key, held),
-        Row::Good(k, _) => {
+        Record::Junk => Walk::Broken(key, value),
+        Record::Good(k, _) => {
             if same_string(log, key, k) {
                 Walk::Over(Stepped::Refused(Refusal::BadStore))
             } else {
-                Walk::Over(held_answer(held))
+                Walk::Over(Stepped::Next { key, value })
             }
         }
     }
 }
 
-fn next_walk(log: &[u8], walk: Walk, row: Row) -> Walk
+fn next_walk(log: &[u8], walk: Walk, row: Record) -> Walk
     ensures { λ r. ⌜ r ≡ nextWalk (now (log .entry)) walk row ⌝ }
 {
     match walk {
         Walk::Start => opened(row),
-        Walk::Within(key, held) => within(log, key, held, row),
-        Walk::Broken(key, held) => broken(log, key, held, row),
+        Walk::Within(key, seen) => within(log, key, seen, row),
+        Walk::Broken(key, value) => broken(log, key, value, row),
         Walk::Over(answer) => Walk::Over(answer),
     }
 }
@@ -142,8 +144,8 @@ fn ended(walk: Walk) -> Stepped
 {
     match walk {
         Walk::Start => Stepped::Refused(Refusal::Absent),
-        Walk::Within(_, held) => held_answer(held),
-        Walk::Broken(_, held) => held_answer(held),
+        Walk::Within(key, seen) => group_answer(key, seen),
+        Walk::Broken(key, value) => Stepped::Next { key, value },
         Walk::Over(answer) => answer,
     }
 }
@@ -160,28 +162,36 @@ fn over(walk: Walk) -> bool
     }
 }
 
-// The slots from number `from` on, to `to` or to where the answer is known.
-pub(crate) fn step_in(
+// The rows from a place on, as far as an upper bound admits them or to where the answer is known.
+pub(crate) fn step_from(
     log: &[u8],
     table: &[u32],
-    count: usize,
-    from: usize,
-    to: usize,
+    mark: Mark,
+    from: Spot,
+    upper: Bound,
+    high: &[u8],
     handle: Handle,
 ) -> Stepped
-    requires { ⌜ (slotWords * count ≤ length (now table)) × (to ≤ count) ⌝ }
-    ensures { λ r. ⌜ r ≡ stepIn handle (now (log .entry)) (slice from to (slotsOf count (now (table .entry)))) ⌝ }
+    requires { ⌜ Held (now log) (now table) mark ⌝ }
+    ensures { λ r. ⌜ r
+        ≡ stepRows handle (now (log .entry)) (upFrom upper (now (high .entry)) (rows (now (log .entry)) (now (table .entry)) mark) (rank from (rows (now (log .entry)) (now (table .entry)) mark))) ⌝ }
 {
     let mut walk = Walk::Start;
-    let mut i = from;
-    while i < to {
-        let known = over(walk);
-        if known {
-            return ended(walk);
+    let mut at = from;
+    loop {
+        match row_from(log, table, mark, at, upper, high) {
+            Near::None => {
+                return ended(walk);
+            }
+            Near::At(p) => {
+                let row = record_at(log, table, mark, p, handle);
+                walk = next_walk(log, walk, row);
+                let known = over(walk);
+                if known {
+                    return ended(walk);
+                }
+                at = next(log, table, mark, p);
+            }
         }
-        let row = row_of(log, slot_at(table, i), handle);
-        walk = next_walk(log, walk, row);
-        i += 1;
     }
-    ended(walk)
 }

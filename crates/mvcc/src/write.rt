@@ -1,43 +1,71 @@
-// The writes of a transaction, set and delete: 13, 2, 3, 4, 5, 12, 6, 7, 8, then TxnWrite and Version. Part of toydb's
-// storage/mvcc.rs.
-pub(crate) mod allow;
-
+// Set and delete of a transaction: 13, 2, 3, 4, 5, 12, 6, 7, 8, then TxnWrite and Version. The store is entered once and its mark goes
+// along; four searches in all: the handle's key, the end of the key's versions, and each of the two keys.
+use crate::admission::Admitted;
+use crate::admission::admit;
 use crate::append::pair::append_pair;
+use crate::append::size::sized;
 use crate::conflict::search;
 use crate::handle::Handle;
 use crate::payload::GONE_TAG;
 use crate::payload::VALUE_TAG;
-use crate::write::allow::allowed;
 use bitcask::Changed;
 use bitcask::Used;
 use bitcask::append::Check;
-use bitcask::keydir::count;
+use bitcask::engine::Mark;
+use keycode::Refusal;
 use keycode::code::version_code;
 use keycode::code::write_code;
+ghost use mathlib.Core.Path.{_≡_};
 ghost use mathlib.Core.List.{_++_};
 ghost use mathlib.Core.Option.{none, some};
-ghost use Prim.Native.Nat.{_*_, _≤_};
+ghost use Prim.Native.Nat.{_≤_};
+ghost use lib.Dec.{leb};
 ghost use lib.ListN.{length};
-ghost use Rattle.keycode.specs.Limits.{maxKey, maxValue, maxLog};
-ghost use Rattle.bitcask.specs.keydir.Slots.{slotWords};
+ghost use Rattle.keycode.specs.Limits.{maxKey, maxValue};
 ghost use Rattle.mvcc.specs.payload.Payloads.{valueBytes};
-ghost use Rattle.mvcc.specs.request.Lists.{Tries};
+ghost use Rattle.bitcask.specs.engine.Marks.{markOf, Held};
 ghost use Rattle.mvcc.specs.write.Writes.{plan};
 ghost use Rattle.mvcc.specs.write.Promises.{Writes};
+ghost use Rattle.mvcc.specs.admission.Admits.{Allows};
+ghost use Rattle.mvcc.specs.append.Appends.{Appends};
+
+// 13, 2, 3, 4, 5. A read-only handle is never refused with 3, so that 2 may be asked after it.
+fn allowed(
+    log: &[u8],
+    used: Used,
+    table: &[u32],
+    handle: Handle,
+    klen: usize,
+    vlen: usize,
+) -> Admitted
+    ensures { λ r. ⌜ Allows (now (log .entry)) used (now (table .entry)) handle klen vlen r ⌝ }
+{
+    match admit(log, used, table, handle) {
+        Admitted::Refused(r) => Admitted::Refused(r),
+        Admitted::Fine(mark) => {
+            if handle.read_only {
+                return Admitted::Refused(Refusal::ReadOnly);
+            }
+            match sized(klen, vlen) {
+                Check::Refused(r) => Admitted::Refused(r),
+                Check::Fine => Admitted::Fine(mark),
+            }
+        }
+    }
+}
 
 // The two entries of a write.
 fn laid(
     log: &mut [u8],
-    at: usize,
     table: &mut [u32],
-    n: usize,
+    mark: Mark,
     version: u64,
     key: &[u8],
     head: &[u8],
     body: &[u8],
 ) -> Changed
-    requires { ⌜ (at ≤ length (now log)) × (length (now log) ≤ maxLog) × (slotWords * n ≤ length (now table)) × (length (now key) ≤ maxKey) × (length (now head) ≤ 1) × (length (now body) ≤ maxValue) ⌝ }
-    ensures { λ r. ⌜ Tries (now (log .entry)) at (now (table .entry)) n (plan version (now (key .entry)) (now (head .entry) ++ now (body .entry))) r (now (log .exit)) (now (table .exit)) ⌝ }
+    requires { ⌜ (Held (now log) (now table) mark) × (mark ≡ markOf (mark .used) (now table)) × (length (now key) ≤ maxKey) × (length (now head) ≤ 1) × (length (now body) ≤ maxValue) ⌝ }
+    ensures { λ r. ⌜ Appends (now (log .entry)) (now (table .entry)) mark (plan version (now (key .entry)) (now (head .entry) ++ now (body .entry))) r (now (log .exit)) (now (table .exit)) ⌝ }
 {
     let write = write_code(version, key);
     let write_bytes = write.bytes;
@@ -47,10 +75,10 @@ fn laid(
     let stored_len = stored.len;
     append_pair(
         log,
-        at,
         table,
-        n,
+        mark,
         &write_bytes[..write_len],
+        &key[..0],
         &stored_bytes[..stored_len],
         head,
         body,
@@ -72,14 +100,11 @@ fn write(
         r (now (log .exit)) (now (table .exit)) ⌝ }
 {
     match allowed(log, used, table, handle, key.len(), body.len()) {
-        Check::Refused(r) => Changed::Refused(r),
-        Check::Fine => {
-            let n = count(table);
-            match search(log, table, n, handle, key) {
-                Check::Refused(r) => Changed::Refused(r),
-                Check::Fine => laid(log, used.len, table, n, handle.version, key, head, body),
-            }
-        }
+        Admitted::Refused(r) => Changed::Refused(r),
+        Admitted::Fine(mark) => match search(log, table, mark, handle, key) {
+            Check::Refused(r) => Changed::Refused(r),
+            Check::Fine => laid(log, table, mark, handle.version, key, head, body),
+        },
     }
 }
 

@@ -15,7 +15,8 @@ use Rattle.bitcask.specs.keydir.Place.{All, all-none, all-more}
 use Rattle.mvcc.specs.declared.payload.VersionRead.the-variants.{Read}
 use Rattle.mvcc.specs.handle.Handles.{rising, risingFrom}
 use Rattle.mvcc.specs.payload.Payloads.{Versions}
-use Rattle.mvcc.specs.request.Ranges.{begins, pairsOf}
+use Rattle.bitcask.specs.engine.Prefixes.{begins}
+use Rattle.bitcask.specs.recovery.Map.{pairsOf}
 use Rattle.mvcc.specs.snapshot.Active.{activeIn, versionsIn, keysOf, activeKeys, activeAt}
 use Rattle.isolation.specs.history.Records.{nextRec, activeRec, snapRec, wroteRec, verRec, plainRec, Map, Above, above-cons, Sorted, sorted-nil, sorted-cons}
 use Rattle.isolation.specs.history.Calls.{actives}

@@ -14,10 +14,9 @@ use Rattle.keycode.specs.key.Keys.{Fields, txnActive, txnWrite, version, encode
 use Rattle.keycode.proofs.key.KeyLaws.{decode-encode, fields-placed}
 use Rattle.bitcask.specs.entry.Entry.{Entry, del}
 use Rattle.bitcask.specs.keydir.Place.{All, all-none, all-more}
-use Rattle.bitcask.specs.recovery.Map.{Pair, after}
+use Rattle.bitcask.specs.recovery.Map.{Pair, after, pairsOf}
 use Rattle.bitcask.specs.change.Append.{afterAll}
 use Rattle.mvcc.specs.declared.handle.Handle.{Handle}
-use Rattle.mvcc.specs.request.Ranges.{pairsOf}
 use Rattle.mvcc.proofs.request.RecordLaws.{writtenBy as isWrite, write-begins}
 use Rattle.mvcc.specs.delete_range.Plans.{cutsOf}
 use Rattle.mvcc.specs.undo.Plans.{userIn, undosOf, allUsers}

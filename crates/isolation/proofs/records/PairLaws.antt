@@ -11,8 +11,7 @@ use Rattle.keycode.specs.declared.order.Order.the-variants.{Less, Equal, Greate
 use Rattle.keycode.proofs.Basics.{nope}
 use Rattle.keycode.proofs.OrderLaws.{flip, compare-flip, compare-refl}
 use Rattle.keycode.specs.key.Keys.{Fields, encode}
-use Rattle.bitcask.specs.recovery.Map.{Pair, lookIn, putIn, cutIn}
-use Rattle.mvcc.specs.request.Looks.{liveIn}
+use Rattle.bitcask.specs.recovery.Map.{Pair, lookIn, putIn, cutIn, liveIn}
 use Rattle.mvcc.specs.request.Looks as Looks
 use Rattle.isolation.specs.history.Store.{isSome}
 use Rattle.isolation.specs.history.Records.{fields≟, Rec, keyOf, Map, look, without, isYes, put, place, Above, above-nil, above-cons, Sorted, sorted-nil, sorted-cons}

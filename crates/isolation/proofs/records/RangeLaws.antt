@@ -20,7 +20,8 @@ use Rattle.keycode.proofs.key.KeyOrder.{order-version}
 use Rattle.bitcask.specs.keydir.Place.{All, all-none, all-more}
 use Rattle.bitcask.specs.declared.answers.Bound.the-variants.{Included}
 use Rattle.bitcask.specs.read.Ranks.{admitsLow, admitsHigh}
-use Rattle.mvcc.specs.request.Ranges.{inside, pairsOf}
+use Rattle.bitcask.specs.engine.Ranges.{inside}
+use Rattle.bitcask.specs.recovery.Map.{pairsOf}
 use Rattle.isolation.specs.history.History.{key≟}
 use Rattle.isolation.specs.history.Records.{Rec, nextRec, activeRec, snapRec, wroteRec, verRec, plainRec, keyOf, Map}
 use Rattle.isolation.specs.history.Calls.{versionsOf}

@@ -19,7 +19,8 @@ use Rattle.bitcask.specs.keydir.Place.{All}
 use Rattle.bitcask.specs.declared.answers.Bound.{Bound}
 use Rattle.bitcask.specs.declared.answers.Bound.the-variants.{Included, Excluded, Unbounded}
 use Rattle.bitcask.specs.read.Ranks.{admitsLow, admitsHigh, lastBound, admitted}
-use Rattle.mvcc.specs.request.Ranges.{begins, pairsOf}
+use Rattle.bitcask.specs.engine.Prefixes.{begins}
+use Rattle.bitcask.specs.recovery.Map.{pairsOf}
 use Rattle.mvcc.specs.declared.handle.Handle.{Handle}
 use Rattle.mvcc.specs.scan.Bounds.{lowKind, lowBytes, highKind, highBytes, scanned, prefixed}
 use Rattle.mvcc.specs.scan.Steps.{stepPairs}

@@ -18,7 +18,7 @@ use Rattle.bitcask.specs.declared.append.Check.the-variants as Check
 use Rattle.mvcc.specs.declared.handle.Handle.{Handle}
 use Rattle.mvcc.specs.handle.Handles.{setOf, sees}
 use Rattle.mvcc.specs.payload.Payloads.{Versions}
-use Rattle.mvcc.specs.request.Ranges.{pairsOf}
+use Rattle.bitcask.specs.recovery.Map.{pairsOf}
 use Rattle.mvcc.specs.conflict.Conflicts.{seenBytes, searchBy, searched}
 use Rattle.isolation.specs.history.History.{key≟, lowest, upTo}
 use Rattle.isolation.specs.history.Records.{Rec, nextRec, activeRec, snapRec, wroteRec, verRec, plainRec, keyOf, Map}

@@ -15,11 +15,10 @@ use Rattle.keycode.proofs.Basics.{nope}
 use Rattle.keycode.specs.key.Keys.{version}
 use Rattle.keycode.proofs.key.KeyLaws.{decode-encode}
 use Rattle.bitcask.specs.keydir.Place.{All, all-none, all-more}
-use Rattle.bitcask.specs.recovery.Map.{Pair}
+use Rattle.bitcask.specs.recovery.Map.{Pair, pairsOf}
 use Rattle.mvcc.specs.declared.handle.Handle.{Handle}
 use Rattle.mvcc.specs.handle.Handles.{setOf, sees}
 use Rattle.mvcc.proofs.payload.PayloadLaws.{first-reads}
-use Rattle.mvcc.specs.request.Ranges.{pairsOf}
 use Rattle.mvcc.specs.version.Seen.{versionTest, pairSays, orPair, lastPair, orGone, valueFor}
 use Rattle.isolation.specs.history.History.{isIn, key≟}
 use Rattle.isolation.specs.history.Records.{Rec, nextRec, activeRec, snapRec, wroteRec, verRec, plainRec, Map}

@@ -13,10 +13,9 @@ use Rattle.keycode.proofs.OrderLaws.{compare-refl}
 use Rattle.keycode.specs.key.Keys.{version, userKey, encode}
 use Rattle.keycode.proofs.key.KeyLaws.{decode-encode, fields-placed}
 use Rattle.bitcask.specs.keydir.Place.{All, all-none, all-more}
-use Rattle.bitcask.specs.recovery.Map.{Pair}
+use Rattle.bitcask.specs.recovery.Map.{Pair, pairsOf}
 use Rattle.mvcc.specs.declared.handle.Handle.{Handle}
 use Rattle.mvcc.proofs.payload.PayloadLaws.{first-reads}
-use Rattle.mvcc.specs.request.Ranges.{pairsOf}
 use Rattle.mvcc.specs.scan.Steps.{Stamp, stampOf, Sight, hidden, sightBy, sameUser, sightFor, orSight, highest, cleanTo, cleanBy, anyOf, stepBy, stepOn, stepPairs}
 use Rattle.mvcc.specs.scan.Steps as Steps
 use Rattle.mvcc.specs.walk.Walks.{isEqual}

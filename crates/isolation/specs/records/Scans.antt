@@ -11,7 +11,7 @@ use Rattle.keycode.specs.Order.{compareBytes}
 use Rattle.keycode.specs.declared.order.Order.the-variants.{Less}
 use Rattle.keycode.specs.key.Keys.{Fields, version, encode}
 use Rattle.bitcask.specs.read.Ranks.{admitsLow, lastBound}
-use Rattle.mvcc.specs.request.Ranges.{begins}
+use Rattle.bitcask.specs.engine.Prefixes.{begins}
 use Rattle.mvcc.specs.scan.Steps.{Given}
 use Rattle.isolation.specs.history.History.{Key, Bytes}
 

@@ -1,98 +1,153 @@
--- Two entries appended: the judgement, what the second append is given, and what any table becomes. Assumes nothing.
-use Prim.Native.Nat.{ℕ, _+_, _-_, _*_, _/_, _≤_}
+-- Two sets appended by one search each: the judgement, what the second is given, and what any table becomes. Assumes nothing.
+use Prim.Native.Nat.{ℕ, _+_, _-_, _/_, _≤_}
 use mathlib.Core.Path.{_≡_, refl, sym, ap, _∙_}
-use mathlib.Core.List.{List, [], _∷_, _++_}
+use mathlib.Core.List.{List, [], _∷_, _++_, append-nil}
 use native.Mathlib.Omega.{arith}
 use lib.ListN.{length, length-append}
 use Rattle.keycode.specs.Limits.{maxLog}
-use Rattle.keycode.specs.declared.refusal.Refusal.{Refusal}
-use Rattle.bitcask.specs.entry.Entry.{Entry, set}
-use Rattle.bitcask.specs.declared.keydir.slots.Slot.{Slot}
-use Rattle.bitcask.specs.declared.keydir.place.Found.{Found}
-use Rattle.bitcask.specs.declared.keydir.place.Found.the-variants.{At, Before}
+use Rattle.keycode.specs.Order.{compareBytes}
+use Rattle.keycode.specs.declared.order.Order.{Order}
+use Rattle.keycode.specs.declared.order.Order.the-variants.{Less, Equal}
+use Rattle.keycode.proofs.OrderLaws.{compare-refl}
+use Rattle.keycode.proofs.Basics.{nope}
+use Rattle.bitcask.specs.entry.Entry.{Entry, set, sizeOf}
+use Rattle.bitcask.specs.declared.keydir.place.Found.{Found as Place}
 use Rattle.bitcask.specs.keydir.Slots.{slotWords, slotsOf}
-use Rattle.bitcask.specs.keydir.Place.{placeOf}
+use Rattle.bitcask.specs.keydir.Place.{Among, placeOf, all-none, all-more}
 use Rattle.bitcask.specs.declared.request.Changed.the-variants as Change
+use Rattle.bitcask.specs.recovery.Map.{Pair, after}
+use Rattle.bitcask.specs.recovery.Recover.{mapOf}
+use Rattle.bitcask.specs.recovery.Agree.{Agrees}
 use Rattle.bitcask.specs.declared.append.Room.{Room}
-use Rattle.bitcask.specs.declared.append.Room.the-variants.{Left}
 use Rattle.bitcask.specs.declared.append.Check.{Check}
-use Rattle.bitcask.specs.declared.append.Check.the-variants.{Fine, Refused}
-use Rattle.bitcask.specs.change.Append.{State, appended, roomAfter, judge, wants, freshIn, sizeAll}
-use Rattle.mvcc.specs.request.Lists.{appendedAll, roomAll, freshAll, judgeAll, stateOf, Tries}
-use Rattle.mvcc.proofs.request.ListLaws.{all-used, all-count, all-size}
-use Rattle.mvcc.proofs.request.FitLaws.{judge-says}
+use Rattle.bitcask.specs.declared.append.Check.the-variants.{Fine}
+use Rattle.bitcask.specs.change.Append.{State, appended, roomAfter, wants, freshIn, sizeAll}
+use Rattle.bitcask.proofs.change.AppendLaws.{fresh-is}
+use Rattle.bitcask.specs.declared.engine.mark.Mark.{Mark}
+use Rattle.bitcask.specs.declared.engine.spot.Found.{Found}
+use Rattle.bitcask.specs.engine.Rows.{rows}
+use Rattle.bitcask.specs.engine.Marks.{markOf, Held}
+use Rattle.bitcask.specs.engine.Spots.{placed, placeBy}
+use Rattle.bitcask.specs.engine.Sets.{spotPlace, upBy, setAt}
+use Rattle.bitcask.specs.engine.Judging.{roomIn, judgeIn}
+use Rattle.bitcask.proofs.engine.SetLaws.{found-place, found-among, set-right, set-long, up-among}
+use Rattle.mvcc.specs.request.Lists.{appendedAll, stateOf, judgeAll, roomAll, freshAll, Fitting, fitting-more, sets-none, sets-more, apart-none, apart-more}
+use Rattle.mvcc.proofs.request.ListLaws.{Held as Agreed}
+use Rattle.mvcc.proofs.append.AllLaws.{Tried, all-room, all-done}
+use Rattle.mvcc.proofs.append.StepLaws.{After, set-after, same-log, same-used, step-up}
+use Rattle.mvcc.specs.append.Appends.{Appends}
+
+-- the two sets
+abbrev pub pairOf : List ℕ → List ℕ → List ℕ → List ℕ → List Entry
+pairOf first value second payload = set first value ∷ set second payload ∷ []
 
 -- ---- the judgement
 
-pub fresh-few : (log key : List ℕ) (ss : List Slot) → freshIn log key ss ≤ 1
-unfolding freshIn
-fresh-few log key ss = go (placeOf log key ss)
-  where
-    go : (f : Found) → wants f ≤ 1
-    go (At i) = omega arith
-    go (Before i) = omega arith
+-- a key is not a greater one
+pub keys-differ : {a b : List ℕ} → compareBytes a b ≡ Less → a ≡ b → ⊥
+keys-differ {a} {b} less e = let z : _≡_ {A = Order} Equal Less = sym (compare-refl b) ∙ (rw e at less) in nope (cc)
 
-pub judged-both : (n k₁ k₂ v a b free : ℕ) (room left : Room) (new more : ℕ) (x : Check) → room ≡ roomAfter (Left n) k₁ 0 → left ≡ roomAfter room k₂ v → new ≡ a → more ≡ b
-    → x ≡ judge left (new + more) free → x ≡ judge (roomAfter (roomAfter (Left n) k₁ 0) k₂ v) (a + b) free
-judged-both n k₁ k₂ v a b free room left new more x er el en em ex = ex ∙ rw (el, er, en, em)
+pub pair-tried : (log t : List ℕ) (m : Mark) (first value second head body : List ℕ) → Held log t m → m ≡ markOf (m .used) t → compareBytes first second ≡ Less → (f g : Found)
+    → placed f (rows log t m) ≡ placeBy first (rows log t m) → placed g (rows log t m) ≡ placeBy second (rows log t m) → {room one two : Room} {a b : ℕ} {x : Check} → room ≡ roomIn log m
+    → one ≡ roomAfter room (length first) (length value) → two ≡ roomAfter one (length second) (length head + length body) → a ≡ wants (spotPlace f) → b ≡ wants (spotPlace g)
+    → x ≡ judgeIn t m two (a + b) → Tried log t m (pairOf first value second (head ++ body)) x
+unfolding judgeAll roomAll freshAll judgeIn roomIn
+pair-tried log t m first value second head body held marked less f g ef eg er e₁ e₂ ea eb ex =
+    let z : freshIn log second (slotsOf (m .count) t) + 0 ≡ freshIn log second (slotsOf (m .count) t) = omega arith in
+    record {
+      held = held;
+      counted = ap (λ (k : Mark). k .count) marked;
+      sets = sets-more (sets-more sets-none);
+      apart = apart-more (all-more (keys-differ less) all-none) (apart-more all-none apart-none);
+      judged = ex
+          ∙ rw (
+            e₂,
+            e₁,
+            er,
+            ea,
+            eb,
+            length-append head body,
+            z,
+            fresh-is log first (slotsOf (m .count) t) (spotPlace f) (found-place log t first m f ef),
+            fresh-is log second (slotsOf (m .count) t) (spotPlace g) (found-place log t second m g eg),
+          );
+    }
 
--- ---- the two appends
+-- ---- two sets at places that were found before the first
 
-abbrev pub pairOf : List ℕ → List ℕ → List ℕ → List Entry
-pairOf first second payload = set first [] ∷ set second payload ∷ []
+pub two-right : (s : State) (k v k₂ v₂ : List ℕ) (f g : Place) → f ≡ placeOf (s .log) k (slotsOf (s .count) (s .table)) → g ≡ placeOf (s .log) k₂ (slotsOf (s .count) (s .table)) → Agreed s
+    → length (s .log) ≤ maxLog → s .used + sizeOf (set k v) ≤ length (s .log) → length (after (set k v) (mapOf (s .log) (s .used))) ≤ length (s .table) / slotWords → compareBytes k k₂ ≡ Less
+    → setAt (setAt s f k v) (upBy (setAt s f k v .count - s .count) g) k₂ v₂ ≡ appended (appended s (set k v)) (set k₂ v₂)
+two-right s k v k₂ v₂ f g ef eg a small room fits less =
+    set-right (setAt s f k v) (upBy (setAt s f k v .count - s .count) g) k₂ v₂ (step-up s k v f ef a small room fits k₂ g eg less)
+    ∙ ap (λ (z : State). appended z (set k₂ v₂)) (set-right s f k v ef)
 
-module _ (log t first second head body : List ℕ) (at n : ℕ) (x : Check)
-    (e : x ≡ judge (roomAfter (roomAfter (Left (length log - at)) (length first) 0) (length second) (length head + length body)) (freshIn log first (slotsOf n t) + freshIn log second (slotsOf n t))
-    (length t / slotWords - n)) where
-  pair-judged : x ≡ judgeAll log at t n (pairOf first second (head ++ body))
-  unfolding judgeAll roomAll freshAll
-  pair-judged =
-      let z : freshIn log second (slotsOf n t) + 0 ≡ freshIn log second (slotsOf n t) = omega arith in
-      e ∙ rw (length-append head body, z)
+first-fits : {cap : ℕ} {e d : Entry} {ds : List Entry} {m : List Pair} → Fitting cap (e ∷ d ∷ ds) m → length (after e m) ≤ cap
+first-fits (fitting-more k f) = k
 
-  pub pair-refused : (r : Refusal) → x ≡ Refused r → Tries log at t n (pairOf first second (head ++ body)) (Change.Refused r) log t
-  pair-refused r q = let j : judgeAll log at t n (pairOf first second (head ++ body)) ≡ Refused r = sym pair-judged ∙ q in
-      record { answer = rw j; bytes = rw j; words = rw j }
+-- ---- as the code does it
 
-  module _ (q : x ≡ Fine) where
-    fine : judgeAll log at t n (pairOf first second (head ++ body)) ≡ Fine
-    fine = sym pair-judged ∙ q
+module _ {log t : List ℕ} {m : Mark} {first value second : List ℕ} (head body : List ℕ) {x : Check} (w : Tried log t m (pairOf first value second (head ++ body)) x) (q : x ≡ Fine) where
+  pair-size : sizeAll (pairOf first value second (head ++ body)) ≡ 8 + length first + length value + (8 + length second + length head + length body)
+  unfolding sizeAll
+  pair-size = simp (length-append head body) (omega arith)
 
-    pair-size : sizeAll (pairOf first second (head ++ body)) ≡ 8 + length first + (8 + length second + length head + length body)
-    unfolding sizeAll
-    pair-size = simp (length-append head body) (omega arith)
+  pub pair-first : m .used .len + 8 + length first + length value + 0 ≤ length log
+  pair-first = omega (arith, pair-size, all-room w q)
 
-    pub pair-room : at ≤ length log → at + (8 + length first + (8 + length second + length head + length body)) ≤ length log
-    unfolding judgeAll
-    pair-room h =
-        let w = judge-says (pairOf first second (head ++ body)) (length log - at) (freshAll log (pairOf first second (head ++ body)) (slotsOf n t)) (length t / slotWords - n) fine in
-        omega (arith, w .0, pair-size)
+  module _ (f g : Found) (ef : placed f (rows log t m) ≡ placeBy first (rows log t m)) (eg : placed g (rows log t m) ≡ placeBy second (rows log t m)) (log₁ t₁ : List ℕ) (k : Mark)
+      (em : record { log = log₁; used = k .used .len; table = t₁; count = k .count }
+      ≡ setAt (record { log = log; used = m .used .len; table = t; count = m .count }) (spotPlace f) first (value ++ [])) where
+    abbrev start : State
+    start = record { log = log; used = m .used .len; table = t; count = m .count }
 
-    -- the store between the two
-    module _ (h : at ≤ length log) (small : length log ≤ maxLog) (k : slotWords * n ≤ length t) (m : State) (em : m ≡ appended (stateOf log at t n) (set first [])) where
-      one-all : appendedAll (stateOf log at t n) (set first [] ∷ []) ≡ appended (stateOf log at t n) (set first [])
-      unfolding appendedAll
-      one-all = refl
+    abbrev mid : State
+    mid = record { log = log₁; used = k .used .len; table = t₁; count = k .count }
 
-      one-size : sizeAll (set first [] ∷ []) ≡ 8 + length first
-      unfolding sizeAll
-      one-size = omega arith
+    first-set : mid ≡ setAt start (spotPlace f) first value
+    first-set = em ∙ ap (setAt start (spotPlace f) first) (append-nil value)
 
-      pub pair-mid : (m .used + 8 + length second + length head + length body ≤ length (m .log)) × (length (m .log) ≤ maxLog) × (slotWords * m .count ≤ length (m .table))
-      pair-mid =
-          let s : State = stateOf log at t n in
-          let u : m .used ≡ at + (8 + length first) = ap (λ (y : State). y .used) (em ∙ sym one-all) ∙ all-used s (set first [] ∷ []) ∙ ap (λ (y : ℕ). at + y) one-size in
-          let l : length (m .log) ≡ length log =
-          ap (λ (y : State). length (y .log)) (em ∙ sym one-all) ∙ all-size s (set first [] ∷ []) (omega (arith, one-size, pair-room h)) in
-          let c : slotWords * m .count ≤ length (m .table) = rw (em ∙ sym one-all) (all-count s (set first [] ∷ []) k) in
-          (omega (arith, pair-room h), omega arith, c)
+    pub pair-after : After log t m first value log₁ t₁ k
+    pair-after = set-after log t m (spotPlace f) first value log₁ t₁ k (w .held) (found-among log t first m f ef) (omega (arith, pair-first)) first-set
 
-    pub pair-done : (m l : State) → m ≡ appended (stateOf log at t n) (set first []) → l ≡ appended m (set second (head ++ body))
-        → Tries log at t n (pairOf first second (head ++ body)) (Change.Done (record { len = l .used })) (l .log) (l .table)
-    pair-done m l em el =
-        let w : l ≡ appendedAll (stateOf log at t n) (pairOf first second (head ++ body)) = unfold appendedAll in (el ∙ ap (λ (y : State). appended y (set second (head ++ body))) em) in
-        record {
-          answer = rw fine (ap (λ (y : ℕ). Change.Done (record { len = y })) (ap (λ (y : State). y .used) w ∙ all-used (stateOf log at t n) (pairOf first second (head ++ body))));
-          bytes = rw fine (ap (λ (y : State). y .log) w);
-          words = rw fine (ap (λ (y : State). y .table) w);
-        }
+    pub pair-behind : (m .count ≤ k .count) × (Among (m .count) (spotPlace g))
+    pair-behind = (pair-after .grows, found-among log t second m g eg)
+
+    module _ (h : Found) (eh : spotPlace h ≡ upBy (k .count - m .count) (spotPlace g)) where
+      second-among : Among (k .count) (spotPlace h)
+      second-among = rw eh (up-among (m .count) (k .count) (spotPlace g) (pair-after .grows) (found-among log t second m g eg))
+
+      pub pair-second : (Held log₁ t₁ k) × (k .used .len + 8 + length second + length head + length body ≤ length log₁) × (Among (k .count) (spotPlace h))
+      pair-second = let z = pair-after in (z .held, omega (arith, z .used, z .long, pair-size, all-room w q), second-among)
+
+      module _ (less : compareBytes first second ≡ Less) (log₂ t₂ : List ℕ) (l : Mark)
+          (el : record { log = log₂; used = l .used .len; table = t₂; count = l .count } ≡ setAt mid (spotPlace h) second (head ++ body)) where
+        abbrev last : State
+        last = record { log = log₂; used = l .used .len; table = t₂; count = l .count }
+
+        last-set : last ≡ setAt (setAt start (spotPlace f) first value) (upBy (setAt start (spotPlace f) first value .count - m .count) (spotPlace g)) second (head ++ body)
+        last-set =
+            el ∙ ap (λ (p : Place). setAt mid p second (head ++ body)) eh
+            ∙ (λ j. setAt (first-set j) (upBy (first-set j .count - m .count) (spotPlace g)) second (head ++ body))
+
+        mid-log : mid .log ≡ appended start (set first value) .log
+        mid-log = ap (λ (z : State). z .log) first-set ∙ same-log start start (spotPlace f) first value refl refl
+
+        mid-used : mid .used ≡ appended start (set first value) .used
+        mid-used = ap (λ (z : State). z .used) first-set ∙ same-used start start (spotPlace f) first value refl
+
+        right : Agrees log (m .used .len) t → Fitting (length t / slotWords) (pairOf first value second (head ++ body)) (mapOf log (m .used .len))
+            → appendedAll (stateOf log (m .used .len) t (m .count)) (pairOf first value second (head ++ body)) .table ≡ t₂
+        unfolding appendedAll
+        right g′ fit =
+            ap (λ (z : State). z .table)
+            (sym (last-set ∙ two-right start first value second (head ++ body) (spotPlace f) (spotPlace g) (found-place log t first m f ef) (found-place log t second m g eg)
+            (record { agrees = g′; counted = w .counted })
+            (w .held .small) (omega (arith, pair-first)) (first-fits fit) less))
+
+        pub pair-done : Appends log t m (pairOf first value second (head ++ body)) (Change.Done (l .used)) log₂ t₂
+        unfolding appendedAll
+        pair-done =
+            all-done w q last (sym (ap (λ (z : State). z .log) el ∙ same-log mid (appended start (set first value)) (spotPlace h) second (head ++ body) mid-log mid-used))
+            (sym (ap (λ (z : State). z .used) el ∙ same-used mid (appended start (set first value)) (spotPlace h) second (head ++ body) mid-used))
+            (ap (λ (z : State). length (z .table)) el ∙ set-long mid (spotPlace h) second (head ++ body) (pair-after .held .room) second-among ∙ pair-after .words) right

@@ -5,7 +5,7 @@ use mathlib.Core.Bool.{Bool, true, false}
 use mathlib.Core.Option.{Option, none, some}
 use mathlib.Core.List.{List, []}
 use lib.Dec.{leb, eqb}
-use lib.ListN.{length, take}
+use lib.ListN.{take}
 use borrow.Author.Tests.{le-leb, lt-leb}
 use Rattle.keycode.specs.Tests.{pick, ifDone}
 use Rattle.keycode.specs.Refusals.{numberOf}
@@ -14,10 +14,20 @@ use Rattle.keycode.specs.declared.refusal.Refusal.{Refusal}
 use Rattle.keycode.specs.declared.refusal.Refusal.the-variants.{TooManyOpen, NoSuchVersion, BadStore, BadRequest}
 use Rattle.keycode.proofs.Basics.{nope}
 use Rattle.keycode.proofs.BufferLaws.{refused-stays}
-use Rattle.bitcask.specs.declared.keydir.slots.Slot.{Slot}
-use Rattle.bitcask.specs.keydir.Slots.{slotsOf, valueOf}
-use Rattle.bitcask.specs.keydir.Place.{countOf}
-use Rattle.bitcask.specs.recovery.Agree.{fit}
+use Rattle.bitcask.specs.declared.request.Used.{Used}
+use Rattle.bitcask.specs.recovery.Map.{lookIn}
+use Rattle.bitcask.specs.recovery.Recover.{mapOf}
+use Rattle.bitcask.specs.declared.engine.mark.Mark.{Mark}
+use Rattle.bitcask.specs.declared.engine.mark.Entered.{Entered}
+use Rattle.bitcask.specs.declared.engine.mark.Entered.the-variants as Entering
+use Rattle.bitcask.specs.declared.engine.spot.Spot.{Spot}
+use Rattle.bitcask.specs.declared.engine.spot.Found.{Found}
+use Rattle.bitcask.specs.declared.engine.spot.Found.the-variants.{At, Absent}
+use Rattle.bitcask.specs.engine.Rows.{Row, rows}
+use Rattle.bitcask.specs.engine.Marks.{enteredBy}
+use Rattle.bitcask.specs.engine.Spots.{rowAt, placed, placeBy, lookRow, rowValue}
+use Rattle.bitcask.proofs.engine.LookLaws.{found-row, absent-row}
+use Rattle.bitcask.proofs.engine.SpotLaws.{in-fits, in-agreeing, refused-fits}
 use Rattle.keycode.specs.declared.code.Code.{Code}
 use Rattle.mvcc.specs.declared.handle.Handle.{Handle}
 use Rattle.mvcc.specs.declared.payload.VersionRead.{VersionRead}
@@ -28,32 +38,27 @@ use Rattle.mvcc.specs.declared.payload.SetRead.{SetRead}
 use Rattle.keycode.specs.code.Codes.{Codes}
 use Rattle.mvcc.specs.handle.Handles.{rising, handleOf, blankHandle}
 use Rattle.mvcc.specs.payload.Payloads.{setIn, setFor, fewEnough, refusedSet}
-use Rattle.mvcc.specs.declared.lookup.Slotted.{Slotted}
-use Rattle.mvcc.specs.declared.lookup.Slotted.the-variants as Slots
-use Rattle.mvcc.specs.request.Looks.{slotOf, slotValue}
-use Rattle.mvcc.proofs.request.LookLaws.{slot-shows}
 use Rattle.mvcc.specs.declared.begun.Begun.{Begun}
-use Rattle.mvcc.specs.snapshot.Active.{nextIn}
+use Rattle.mvcc.specs.snapshot.Active.{nextIn, nextAt}
 use Rattle.mvcc.specs.request.Given.{refusedBy, begunWith, begunNumber}
 use Rattle.mvcc.specs.as_of.Answers.{snapshotRead, asOfWith, asOfBy}
 use Rattle.mvcc.specs.as_of.Promises.{BeginsAsOf}
-use Rattle.mvcc.proofs.snapshot.AgreedLaws.{next-agrees}
+use Rattle.mvcc.proofs.snapshot.AgreedLaws.{look-agrees, next-agrees}
 
 -- ---- the snapshot
 
-module _ (log : List ℕ) (ss : List Slot) (v : ℕ) {c : Code} (w : Codes c (encode (txnActiveSnapshot v))) {s : Slotted} (says : s ≡ slotOf log (take (c .len) (c .bytes)) ss)
-    {h : Handle} (eh : h ≡ handleOf v true []) where
-  stored-slot : s ≡ slotOf log (encode (txnActiveSnapshot v)) ss
-  stored-slot = says ∙ ap (λ (k : List ℕ). slotOf log k ss) (w .says)
+module _ (rs : List Row) (v : ℕ) {c : Code} (w : Codes c (encode (txnActiveSnapshot v))) (f : Found) (says : placed f rs ≡ placeBy (take (c .len) (c .bytes)) rs)
+    {h : Handle} (eh : h ≡ handleOf v true []) (p : Spot) where
+  stored-row : lookRow (take (c .len) (c .bytes)) rs ≡ lookRow (encode (txnActiveSnapshot v)) rs
+  stored-row = ap (λ (k : List ℕ). lookRow k rs) (w .says)
 
-  pub stored-none : s ≡ Slots.None → record { answer = SetAnswers.Fine; handle = h } ≡ snapshotRead v (slotValue log (slotOf log (encode (txnActiveSnapshot v)) ss))
+  pub stored-none : f ≡ Absent p → record { answer = SetAnswers.Fine; handle = h } ≡ snapshotRead v (rowValue (lookRow (encode (txnActiveSnapshot v)) rs))
   unfolding snapshotRead
-  stored-none e = rw (← stored-slot, e, eh)
+  stored-none e = rw (← stored-row, absent-row (take (c .len) (c .bytes)) rs says p e, eh)
 
-  pub stored-some : (x : Slot) → s ≡ Slots.At x → {b : List ℕ} {r : SetRead} → b ≡ valueOf log x → r ≡ setFor h (setIn b)
-      → r ≡ snapshotRead v (slotValue log (slotOf log (encode (txnActiveSnapshot v)) ss))
+  pub stored-some : f ≡ At p → {b : List ℕ} {r : SetRead} → b ≡ rowAt p rs .value → r ≡ setFor h (setIn b) → r ≡ snapshotRead v (rowValue (lookRow (encode (txnActiveSnapshot v)) rs))
   unfolding snapshotRead
-  stored-some x e eb er = rw (← stored-slot, e, er, eb, eh)
+  stored-some e eb er = rw (← stored-row, found-row (take (c .len) (c .bytes)) rs says p e, er, eb, eh)
 
 -- ---- every refusal comes with a blank handle, and none is 13
 
@@ -91,37 +96,43 @@ clear used v (Read n) p = go (leb n v)
 
 -- ---- the promise
 
-module _ (log : List ℕ) (used : ℕ) (t : List ℕ) (v : ℕ) where
-  pub as-of-sizes : {r : Begun} → fit (length log) used (length t) ≡ false → r ≡ refusedBy BadRequest → BeginsAsOf log used t v r
-  as-of-sizes f e = rw e (record { blank = refl; bad = rw f; answer = λ g. nope (cc (g .sound, f)) })
+module _ (log : List ℕ) (used : Used) (t : List ℕ) (v : ℕ) {a : Entered} (ea : a ≡ enteredBy log used t) where
+  pub as-of-sizes : {r : Begun} (x : Refusal) → a ≡ Entering.Refused x → r ≡ refusedBy x → BeginsAsOf log (used .len) t v r
+  as-of-sizes {r} x e q =
+      let w = refused-fits log used t a ea x e in
+      let z : r ≡ refusedBy BadRequest = q ∙ ap refusedBy (w .1) in
+      rw z (record { blank = refl; bad = rw (w .0); answer = λ g. nope (cc (g .sound, w .0)) })
 
-  abbrev stored : ℕ → Option (List ℕ)
-  stored n = slotValue log (slotOf log (encode (txnActiveSnapshot v)) (slotsOf n t))
+  module _ (m : Mark) (e : a ≡ Entering.In m) {x : VersionRead} (ex : x ≡ nextIn (rows log t m)) where
+    abbrev stored : Option (List ℕ)
+    stored = rowValue (lookRow (encode (txnActiveSnapshot v)) (rows log t m))
 
-  module _ (f : fit (length log) used (length t) ≡ true) {n : ℕ} (en : n ≡ countOf t) {x : VersionRead} (ex : x ≡ nextIn log (slotsOf n t)) where
-    as-of-made : {r : Begun} → r ≡ asOfBy used v x (stored n) → BeginsAsOf log used t v r
-    as-of-made e =
-        let z = clear used v x (stored n) in
-        rw e
+    as-of-made : {r : Begun} → r ≡ asOfBy (used .len) v x stored → BeginsAsOf log (used .len) t v r
+    as-of-made q =
+        let z = clear (used .len) v x stored in
+        let f = in-fits log used t a ea m e in
+        rw q
         (record {
           blank = z .0;
-          bad = z .1 ∙ rw f;
-          answer = λ g. rw (ex, en, next-agrees log used t g, slot-shows log used t g (encode (txnActiveSnapshot v)));
+          bad = z .1 ∙ rw (f .0);
+          answer = λ g. let h = in-agreeing log used t a ea m e g in
+              (λ j. asOfBy (used .len) v ((ex ∙ next-agrees log t m h) j) (look-agrees log t m h (encode (txnActiveSnapshot v)) j))
+              ∙ ap (λ (k : Mark). asOfBy (used .len) v (nextAt (mapOf log (k .used .len))) (lookIn (encode (txnActiveSnapshot v)) (mapOf log (k .used .len)))) (f .1);
         })
 
-    pub as-of-bad : {r : Begun} → x ≡ Bad → r ≡ refusedBy BadStore → BeginsAsOf log used t v r
-    as-of-bad e q = as-of-made (q ∙ rw e)
+    pub as-of-bad : {r : Begun} → x ≡ Bad → r ≡ refusedBy BadStore → BeginsAsOf log (used .len) t v r
+    as-of-bad y q = as-of-made (q ∙ rw y)
 
-    module _ (m : ℕ) (e : x ≡ Read m) where
-      pub as-of-late : {r : Begun} → m ≤ v → r ≡ refusedBy NoSuchVersion → BeginsAsOf log used t v r
-      as-of-late h q = as-of-made (q ∙ rw (e, le-leb m v h))
+    module _ (n : ℕ) (y : x ≡ Read n) where
+      pub as-of-late : {r : Begun} → n ≤ v → r ≡ refusedBy NoSuchVersion → BeginsAsOf log (used .len) t v r
+      as-of-late h q = as-of-made (q ∙ rw (y, le-leb n v h))
 
-      module _ (h : v < m) {s : SetRead} (es : s ≡ snapshotRead v (slotValue log (slotOf log (encode (txnActiveSnapshot v)) (slotsOf n t)))) where
-        as-of-read : {r : Begun} → r ≡ asOfWith used (s .answer) (s .handle) → BeginsAsOf log used t v r
-        as-of-read q = as-of-made (q ∙ rw (e, lt-leb m v h, es))
+      module _ (h : v < n) {s : SetRead} (es : s ≡ snapshotRead v (rowValue (lookRow (encode (txnActiveSnapshot v)) (rows log t m)))) where
+        as-of-read : {r : Begun} → r ≡ asOfWith (used .len) (s .answer) (s .handle) → BeginsAsOf log (used .len) t v r
+        as-of-read q = as-of-made (q ∙ rw (y, lt-leb n v h, es))
 
-        pub as-of-done : {r : Begun} → s .answer ≡ SetAnswers.Fine → r ≡ begunWith used (s .handle) → BeginsAsOf log used t v r
-        as-of-done a q = as-of-read (q ∙ rw a)
+        pub as-of-done : {r : Begun} → s .answer ≡ SetAnswers.Fine → r ≡ begunWith (used .len) (s .handle) → BeginsAsOf log (used .len) t v r
+        as-of-done b q = as-of-read (q ∙ rw b)
 
-        pub as-of-refused : {r : Begun} (y : Refusal) → s .answer ≡ SetAnswers.Refused y → r ≡ refusedBy y → BeginsAsOf log used t v r
-        as-of-refused y a q = as-of-read (q ∙ rw a)
+        pub as-of-refused : {r : Begun} (z : Refusal) → s .answer ≡ SetAnswers.Refused z → r ≡ refusedBy z → BeginsAsOf log (used .len) t v r
+        as-of-refused z b q = as-of-read (q ∙ rw b)

@@ -1,48 +1,43 @@
--- What the ends of a transaction share, for any list of tombstones: what a refusal, no entry and a whole list leave, the numbers of a
--- request, and the engine's rule by the room that the code finds. Assumes nothing.
+-- What the ends of a transaction share, for any list of tombstones: what a refusal, no entry and a whole list leave, and the engine's rule
+-- by the room that the code finds. Assumes nothing.
 use Prim.Native.Nat.{ℕ, zero, suc, _+_, _-_, _/_, _≤_, _<_}
 use mathlib.Core.Path.{_≡_, refl, sym, ap, _∙_, subst}
-use mathlib.Core.Bool.{Bool, true, false, not}
-use mathlib.Core.List.{List, []}
+use mathlib.Core.Bool.{Bool, true, false}
+use mathlib.Core.List.{List, [], _∷_, _++_}
 use native.Mathlib.Nat.{add-zero}
 use native.Mathlib.Omega.{arith}
-use lib.Dec.{leb, eqb}
+use lib.Dec.{leb}
 use lib.ListN.{length}
 use borrow.Author.Tests.{le-leb, lt-leb, leb-true, leb-false}
 use Rattle.keycode.specs.Tests.{pick, ifDone}
-use Rattle.keycode.specs.Refusals.{numberOf}
 use Rattle.keycode.specs.Buffer.{put}
 use Rattle.keycode.specs.declared.refusal.Refusal.{Refusal}
-use Rattle.keycode.specs.declared.refusal.Refusal.the-variants.{NotOpen, LogFull, BadRequest}
+use Rattle.keycode.specs.declared.refusal.Refusal.the-variants.{LogFull}
 use Rattle.keycode.proofs.Basics.{nope}
 use Rattle.keycode.proofs.BufferLaws.{refused-stays, put-none}
-use Rattle.bitcask.specs.entry.Entry.{Entry}
-use Rattle.bitcask.specs.keydir.Slots.{slotWords, slotsOf}
+use Rattle.bitcask.specs.entry.Entry.{Entry, entryKey, entryValue}
+use Rattle.bitcask.specs.keydir.Slots.{slotWords}
 use Rattle.bitcask.specs.keydir.Place.{countOf}
 use Rattle.bitcask.specs.declared.request.Used.{Used}
 use Rattle.bitcask.specs.declared.request.Changed.{Changed}
 use Rattle.bitcask.specs.declared.request.Changed.the-variants as Change
 use Rattle.bitcask.specs.recovery.Recover.{mapOf}
-use Rattle.bitcask.specs.recovery.Agree.{fit, Agrees}
+use Rattle.bitcask.specs.recovery.Agree.{Agrees}
 use Rattle.bitcask.specs.recovery.Promises.{changedNumber}
-use Rattle.bitcask.proofs.recovery.AgreeLaws.{Sound, fit-sound, agrees-sound, agrees-unique}
+use Rattle.bitcask.proofs.recovery.AgreeLaws.{agrees-sound, agrees-unique}
+use Rattle.bitcask.specs.declared.append.Room.{Room}
 use Rattle.bitcask.specs.declared.append.Room.the-variants.{Left, Full}
-use Rattle.bitcask.specs.declared.append.Check.{Check}
-use Rattle.bitcask.specs.declared.append.Check.the-variants.{Fine, Refused}
-use Rattle.bitcask.specs.change.Append.{State, sizeAll, bytesAll, afterAll, appendAnswer}
-use Rattle.mvcc.specs.declared.handle.Handle.{Handle}
-use Rattle.mvcc.specs.handle.Handles.{soundHandle}
-use Rattle.mvcc.specs.request.Looks.{liveOf}
-use Rattle.mvcc.specs.request.Checks.{activeKey, openBy, admitBy, checkNumber, openIn}
-use Rattle.mvcc.specs.request.Lists.{roomAll, Dels, dels-none, stateOf}
-use Rattle.mvcc.proofs.request.CheckLaws.{open-read, open-agrees, admit-bad, admit-not-open, Admitted, admit-fine, not-done}
-use Rattle.mvcc.proofs.request.CheckLaws.{open-never}
+use Rattle.bitcask.specs.change.Append.{State, roomAfter, sizeAll, bytesAll, afterAll, appendAnswer}
+use Rattle.bitcask.specs.engine.Rows.{Row}
+use Rattle.bitcask.specs.engine.Endings.{tombstones, roomTombs}
+use Rattle.bitcask.specs.engine.Extends.{Extends}
+use Rattle.bitcask.proofs.engine.ExtendLaws.{extends-none}
+use Rattle.bitcask.proofs.engine.LeftLaws.{Keeps}
+use Rattle.mvcc.specs.request.Lists.{roomAll, Dels, dels-none}
+use Rattle.mvcc.proofs.request.CheckLaws.{not-done}
 use Rattle.mvcc.proofs.request.ListLaws.{Appends}
 use Rattle.mvcc.proofs.request.FitLaws.{room-all, dels-shrink, map-fits}
-use Rattle.mvcc.specs.delete_range.Cuts.{Extends}
-use Rattle.mvcc.proofs.delete_range.ExtendLaws.{extends-none}
-use Rattle.mvcc.proofs.delete_range.ManyLaws.{Keeps}
-use Rattle.mvcc.specs.end.Promises.{among, Leaves, Early}
+use Rattle.mvcc.specs.end.Promises.{Leaves}
 
 -- ---- what is left
 
@@ -81,17 +76,30 @@ module _ (log : List ℕ) (used : ℕ) (t : List ℕ) where
       }
 
   -- a list appended by steps that keep what lies below
-  pub leaves-done : (n : ℕ) (es : List Entry) (s : State) → Keeps (stateOf log used t n) s → (Agrees log used t → Appends log used t es s)
+  pub leaves-done : (n : ℕ) (es : List Entry) (s : State) → Keeps (record { log = log; used = used; table = t; count = n }) s → (Agrees log used t → Appends log used t es s)
       → Leaves log used t es (Change.Done (record { len = s .used })) (s .log) (s .table)
   leaves-done n es s k f =
       record {
         kept = refl;
         words = refl;
-        long = k .words;
+        long = k .table;
         ends = λ u e. subst (Extends log used (s .log)) (done-len e) (k .extends);
         bytes = λ g. f g .bytes;
         again = λ g z. subst (λ (m : ℕ). Agrees (s .log) m (s .table)) (f g .ends) (f g .again);
       }
+
+-- the entries matter where the table agrees alone
+pub leaves-plan : {log : List ℕ} {used : ℕ} {t : List ℕ} {es fs : List Entry} {r : Changed} {log′ t′ : List ℕ} → (Agrees log used t → fs ≡ es) → Leaves log used t es r log′ t′
+    → Leaves log used t fs r log′ t′
+leaves-plan {log} {used} {t} {r = r} {log′ = log′} {t′ = t′} f w =
+    record {
+      kept = w .kept;
+      words = w .words;
+      long = w .long;
+      ends = w .ends;
+      bytes = λ g. w .bytes g ∙ ap (λ (ds : List Entry). ifDone (changedNumber r) (put log used (bytesAll ds)) log) (sym (f g));
+      again = λ g z. subst (λ (ds : List Entry). Agrees log′ (used + sizeAll ds) t′) (sym (f g)) (w .again g z);
+    }
 
 -- under agreement two of them with one answer are one
 module _ {log : List ℕ} {used : ℕ} {t : List ℕ} {es : List Entry} {r r′ : Changed} {l l′ x x′ : List ℕ} (same : r ≡ r′) (w : Leaves log used t es r l x) (w′ : Leaves log used t es r′ l′ x′) (g : Agrees log used t) where
@@ -111,75 +119,18 @@ module _ {log : List ℕ} {used : ℕ} {t : List ℕ} {es : List Entry} {r r′ 
       go zero q = agrees-unique (subst (λ (y : List ℕ). Agrees y (used + sizeAll es) x) leaves-log (w .again g q)) (w′ .again g (back ∙ q)) (w .long ∙ sym (w′ .long))
       go (suc n) q = stays (w .words) q ∙ sym (stays (w′ .words) (back ∙ q))
 
--- ---- the numbers of a request
-
-never-by : (fits sound active : Bool) → active ≡ false → pick fits (pick sound (not active) false) false ≡ pick fits sound false
-never-by fits true active e = rw e
-never-by fits false active e = refl
-
-read-by : (fits sound active : Bool) (r : Refusal) → admitBy fits sound active ≡ Refused r → active ≡ true → pick fits sound false ≡ true → ⊥
-unfolding admitBy
-read-by true true true r q e a = nope (cc)
-read-by true true false r q e a = nope (cc)
-read-by true false active r q e a = nope (cc)
-read-by false sound active r q e a = nope (cc)
-
-not-asked : {fits sound : Bool} → fits ≡ true → sound ≡ true → not (pick fits sound false) ≡ false
-not-asked e f = rw (e, f)
-
-apart-by : {b : Bool} → b ≡ true → b ≡ false → ⊥
-apart-by e f = nope (cc)
-
--- the numbers of the checks
-pub admit-numbers : (ns : List ℕ) → among 3 ns ≡ true → among 13 ns ≡ true → (fits sound active : Bool) (r : Refusal) → admitBy fits sound active ≡ Refused r → among (numberOf r) ns ≡ true
-unfolding admitBy
-admit-numbers ns a b true true true r e = nope (cc)
-admit-numbers ns a b true true false r e = let q : r ≡ NotOpen = cc in rw q a
-admit-numbers ns a b true false active r e = let q : r ≡ BadRequest = cc in rw q b
-admit-numbers ns a b false sound active r e = let q : r ≡ BadRequest = cc in rw q b
-
-module _ (log : List ℕ) (used : ℕ) (t : List ℕ) (h : Handle) where
-  -- the checks as the code makes them
-  abbrev pub admitted : Check
-  admitted = admitBy (fit (length log) used (length t)) (soundHandle h) (openBy h (liveOf log (activeKey h) (slotsOf (countOf t) t)))
-
-  pub admit-map : Agrees log used t → admitBy (fit (length log) used (length t)) (soundHandle h) (openIn log used h) ≡ admitted
-  admit-map g = rw (open-agrees log used t h g)
-
-  pub early-refused : (r : Refusal) → admitted ≡ Refused r → Early log used t h (Change.Refused r) log t
-  early-refused r q =
-      let live : Bool = liveOf log (activeKey h) (slotsOf (countOf t) t) in
-      let fits : Bool = fit (length log) used (length t) in
-      record {
-        bad = ap (λ (x : Check). eqb (checkNumber x) 13) (sym q) ∙ admit-bad fits (soundHandle h) (openBy h live);
-        never = λ o. ap (λ (x : Check). eqb (checkNumber x) 3) (sym q) ∙ admit-not-open fits (soundHandle h) (openBy h live) ∙ never-by fits (soundHandle h) (openBy h live) (open-never h live o);
-        reads = λ p a. absurd (read-by fits (soundHandle h) (openBy h live) r q (sym (open-read h live p)) a);
-      }
-
-  -- a call that passes the checks
-  module _ (e : Fine ≡ admitted) where
-    fine : Admitted (fit (length log) used (length t)) (soundHandle h) (openBy h (liveOf log (activeKey h) (slotsOf (countOf t) t)))
-    fine = admit-fine (fit (length log) used (length t)) (soundHandle h) (openBy h (liveOf log (activeKey h) (slotsOf (countOf t) t))) e
-
-    pub fine-sound : Sound (length log) used (length t)
-    fine-sound = fit-sound (length log) used (length t) (fine .sizes)
-
-    -- 13 is not its answer, nor is 3 where no store has the handle open
-    early-by : (r : Changed) (log′ t′ : List ℕ) → eqb (changedNumber r) 13 ≡ false → (h .«read_only» ≡ true → (r ≡ Change.Done (record { len = used })) × (log′ ≡ log) × (t′ ≡ t)) → Early log used t h r log′ t′
-    early-by r log′ t′ z f =
-        record {
-          bad = z ∙ sym (not-asked (fine .sizes) (fine .handle));
-          never = λ o. absurd (apart-by (fine .opened) (open-never h (liveOf log (activeKey h) (slotsOf (countOf t) t)) o));
-          reads = λ p a. f p;
-        }
-
-    pub early-reads : Early log used t h (Change.Done (record { len = used })) log t
-    early-reads = early-by (Change.Done (record { len = used })) log t refl (λ p. (refl, refl, refl))
-
-    pub early-writes : h .«read_only» ≡ false → (r : Changed) (log′ t′ : List ℕ) → eqb (changedNumber r) 13 ≡ false → Early log used t h r log′ t′
-    early-writes q r log′ t′ z = early-by r log′ t′ z (λ p. absurd (apart-by p q))
-
 -- ---- the engine's rule, by the room that tombstones leave
+
+pub room-append : (room : Room) (es fs : List Entry) → roomAll room (es ++ fs) ≡ roomAll (roomAll room es) fs
+unfolding roomAll
+room-append room [] fs = refl
+room-append room (e ∷ es) fs = room-append (roomAfter room (length (entryKey e)) (length (entryValue e))) es fs
+
+-- the room that the code finds for rows
+pub room-rows : (room : Room) (rs : List Row) → roomTombs room rs ≡ roomAll room (tombstones rs)
+unfolding roomAll roomTombs tombstones
+room-rows room [] = refl
+room-rows room (r ∷ rs) = room-rows (roomAfter room (length (r .key)) 0) rs
 
 room-by : (es : List Entry) (k : ℕ) (b : Bool) → leb (sizeAll es) k ≡ b → roomAll (Left k) es ≡ pick b (Left (k - sizeAll es)) Full
 room-by es k b e = room-all k es ∙ rw e

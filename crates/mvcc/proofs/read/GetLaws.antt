@@ -1,47 +1,40 @@
 -- Get keeps its promise. Assumes nothing.
 use Prim.Native.Nat.{ℕ, _≤_, _<_}
-use mathlib.Core.Path.{_≡_, refl, ap, _∙_}
+use mathlib.Core.Path.{_≡_, refl, sym, ap, _∙_}
 use mathlib.Core.Bool.{Bool, true, false, not}
 use mathlib.Core.List.{List}
 use lib.Dec.{leb, eqb}
-use lib.ListN.{length, take}
+use lib.ListN.{length}
 use borrow.Author.Tests.{le-leb, lt-leb}
 use Rattle.keycode.specs.Tests.{pick}
 use Rattle.keycode.specs.Limits.{maxKey}
-use Rattle.keycode.specs.key.Keys.{encode, version}
 use Rattle.keycode.specs.declared.refusal.Refusal.{Refusal}
 use Rattle.keycode.specs.declared.refusal.Refusal.the-variants.{KeyTooLong}
-use Rattle.bitcask.specs.keydir.Slots.{slotsOf}
-use Rattle.bitcask.specs.keydir.Place.{countOf}
-use Rattle.bitcask.specs.recovery.Agree.{fit}
-use Rattle.bitcask.specs.declared.answers.Bound.the-variants.{Included}
+use Rattle.bitcask.specs.declared.request.Used.{Used}
+use Rattle.bitcask.specs.recovery.Agree.{fit, Agrees}
 use Rattle.bitcask.specs.declared.append.Check.{Check}
 use Rattle.bitcask.specs.declared.append.Check.the-variants as Check
 use Rattle.bitcask.specs.declared.answers.Located.{Located}
 use Rattle.bitcask.specs.declared.answers.Located.the-variants as Got
 use Rattle.bitcask.specs.read.Promises.{locatedNumber}
-use Rattle.keycode.specs.declared.code.Code.{Code}
+use Rattle.bitcask.specs.declared.engine.mark.Mark.{Mark}
+use Rattle.bitcask.specs.engine.Rows.{rows}
+use Rattle.bitcask.specs.engine.Spots.{hasRow}
+use Rattle.bitcask.specs.engine.Marks.{markOf, Agreeing}
 use Rattle.mvcc.specs.declared.handle.Handle.{Handle}
-use Rattle.keycode.specs.code.Codes.{Codes}
 use Rattle.mvcc.specs.handle.Handles.{soundHandle}
-use Rattle.mvcc.specs.declared.range.Span.{Span}
-use Rattle.mvcc.specs.request.Ranges.{slice, Spans}
-use Rattle.mvcc.specs.request.Looks.{liveOf}
 use Rattle.mvcc.specs.request.Checks.{activeKey, openBy, admitBy}
-use Rattle.mvcc.proofs.request.RangeLaws.{range-agrees, span-range}
-use Rattle.mvcc.proofs.request.CheckLaws.{open-agrees, open-never, open-ever}
+use Rattle.mvcc.proofs.request.CheckLaws.{open-never, open-ever}
 use Rattle.mvcc.specs.declared.version.Seen.{Seen}
 use Rattle.mvcc.specs.declared.version.Seen.the-variants.{Hidden, Gone, Bad, Value}
-use Rattle.mvcc.specs.version.Seen.{lastSeen, locatedSeen, versionSlots}
+use Rattle.mvcc.specs.version.Seen.{locatedSeen}
 use Rattle.mvcc.specs.read.Promises.{checked, getAnswer, Gets}
-
--- ---- the versions of a key
-
-pub highest-by : (log t : List ℕ) (h : Handle) (key : List ℕ) {n : ℕ} {a b : Code} {r : Span} {s : Seen} → n ≡ countOf t → Codes a (encode (version key 0)) → Codes b (encode (version key (h .version)))
-    → Spans log (slotsOf n t) n Included (take (a .len) (a .bytes)) Included (take (b .len) (b .bytes)) r → s ≡ lastSeen h log (slice (r .from) (r .to) (slotsOf n t))
-    → s ≡ lastSeen h log (versionSlots key (h .version) log (slotsOf (countOf t) t))
-highest-by log t h key {n} {a} {b} {r} en wa wb w es =
-    es ∙ ap (lastSeen h log) (span-range Included (take (a .len) (a .bytes)) Included (take (b .len) (b .bytes)) log w) ∙ rw (wa .says, wb .says, en)
+use Rattle.mvcc.specs.declared.admission.Admitted.{Admitted}
+use Rattle.mvcc.specs.declared.admission.Admitted.the-variants.{Fine, Refused}
+use Rattle.mvcc.specs.admission.Admits.{checkOf, Admits}
+use Rattle.mvcc.specs.version.Seen.{lastRows, versionRows}
+use Rattle.mvcc.proofs.admission.AdmitLaws.{open-rows, fine-rows}
+use Rattle.mvcc.proofs.version.SeenLaws.{versions-agree}
 
 -- ---- the numbers of an answer that comes behind the checks
 
@@ -93,19 +86,23 @@ module _ (s : Seen) where
 
 -- ---- the promise
 
--- what get answers for any table
-abbrev gotAt : List ℕ → ℕ → List ℕ → Handle → List ℕ → Located
-gotAt log used t h key =
-    getAnswer (fit (length log) used (length t)) (soundHandle h) (openBy h (liveOf log (activeKey h) (slotsOf (countOf t) t))) h log key
-    (versionSlots key (h .version) log (slotsOf (countOf t) t))
+module _ (log : List ℕ) (used : Used) (t : List ℕ) (h : Handle) (key : List ℕ) where
+  -- whether the handle's key has a row, what the rows of the key's versions say, and what get answers then, for any table
+  abbrev active : Bool
+  active = openBy h (hasRow (activeKey h) (rows log t (markOf used t)))
 
-module _ (log : List ℕ) (used : ℕ) (t : List ℕ) (h : Handle) (key : List ℕ) where
-  gets-keep : {r : Located} → r ≡ gotAt log used t h key → Gets log used t h key r
+  abbrev said : Seen
+  said = lastRows h (versionRows key (h .version) (rows log t (markOf used t)))
+
+  abbrev got : Located
+  got = checked (admitBy (fit (length log) (used .len) (length t)) (soundHandle h) active) (pick (leb (length key) maxKey) (locatedSeen said) (Got.Refused KeyTooLong))
+
+  gets-keep : {r : Located} → r ≡ got → Gets log (used .len) t h key r
   unfolding getAnswer
   gets-keep e =
-      let f : Bool = fit (length log) used (length t) in
-      let live : Bool = liveOf log (activeKey h) (slotsOf (countOf t) t) in
-      let s : Seen = lastSeen h log (versionSlots key (h .version) log (slotsOf (countOf t) t)) in
+      let f : Bool = fit (length log) (used .len) (length t) in
+      let live : Bool = hasRow (activeKey h) (rows log t (markOf used t)) in
+      let s : Seen = said in
       let b : Bool = leb (length key) maxKey in
       let l : Located = pick b (locatedSeen s) (Got.Refused KeyTooLong) in
       record {
@@ -113,19 +110,19 @@ module _ (log : List ℕ) (used : ℕ) (t : List ℕ) (h : Handle) (key : List �
         never = λ q. ap (λ (x : Located). eqb (locatedNumber x) 3) e ∙ rw (open-never h live q) (checked-never l f (soundHandle h));
         ever = λ q. ap (λ (x : Located). eqb (locatedNumber x) 3) e ∙ rw (open-ever h live q) (checked-ever l f (soundHandle h) (within-open s b));
         long = λ q. ap (λ (x : Located). eqb (locatedNumber x) 4) e ∙ rw (open-ever h live q) (checked-long l f (soundHandle h) (not b) (within-long s b));
-        answer = λ g. e ∙ rw (open-agrees log used t h g, range-agrees Included (encode (version key 0)) Included (encode (version key (h .version))) log used t g);
+        answer = λ g.
+            let w : Agreeing log t (markOf used t) = record { agrees = g; count = refl } in
+            e ∙ rw (open-rows log used t h g, versions-agree log t (markOf used t) h key (h .version) w);
       }
 
-  module _ {check : Check} (ek : check ≡ admitBy (fit (length log) used (length t)) (soundHandle h) (openBy h (liveOf log (activeKey h) (slotsOf (countOf t) t)))) where
-    pub get-refused : (r : Refusal) → check ≡ Check.Refused r → Gets log used t h key (Got.Refused r)
-    unfolding getAnswer
-    get-refused r e = gets-keep (rw (← ek, e))
+  module _ {a : Admitted} (w : Admits log used t h a) where
+    pub get-refused : (r : Refusal) → a ≡ Refused r → Gets log (used .len) t h key (Got.Refused r)
+    get-refused r e = gets-keep (rw (← w .check, e))
 
-    module _ (e : check ≡ Check.Fine) where
-      pub get-long : maxKey < length key → Gets log used t h key (Got.Refused KeyTooLong)
-      unfolding getAnswer
-      get-long k = gets-keep (rw (← ek, e, lt-leb (length key) maxKey k))
+    module _ (m : Mark) (e : a ≡ Fine m) where
+      pub get-long : maxKey < length key → Gets log (used .len) t h key (Got.Refused KeyTooLong)
+      get-long k = gets-keep (rw (← w .check, e, lt-leb (length key) maxKey k))
 
-      pub get-seen : length key ≤ maxKey → {s : Seen} {r : Located} → s ≡ lastSeen h log (versionSlots key (h .version) log (slotsOf (countOf t) t)) → r ≡ locatedSeen s → Gets log used t h key r
-      unfolding getAnswer
-      get-seen k es er = gets-keep (rw (← ek, e, le-leb (length key) maxKey k, ← es) er)
+      pub get-seen : length key ≤ maxKey → {s : Seen} {r : Located} → s ≡ lastRows h (versionRows key (h .version) (rows log t m)) → r ≡ locatedSeen s → Gets log (used .len) t h key r
+      get-seen k es er =
+          gets-keep (rw (← w .check, e, le-leb (length key) maxKey k, ← fine-rows log used t h w m e) (er ∙ ap locatedSeen es))

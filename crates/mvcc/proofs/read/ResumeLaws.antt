@@ -8,19 +8,24 @@ use lib.ListN.{length}
 use Rattle.keycode.specs.Tests.{pick, ifDone}
 use Rattle.keycode.specs.declared.refusal.Refusal.{Refusal}
 use Rattle.keycode.proofs.Basics.{nope}
-use Rattle.bitcask.specs.keydir.Slots.{slotsOf}
-use Rattle.bitcask.specs.keydir.Place.{countOf}
+use Rattle.bitcask.specs.declared.request.Used.{Used}
 use Rattle.bitcask.specs.declared.request.Changed.the-variants as Change
 use Rattle.bitcask.specs.recovery.Agree.{fit}
 use Rattle.bitcask.specs.recovery.Promises.{changedNumber}
 use Rattle.bitcask.specs.declared.append.Check.{Check}
-use Rattle.bitcask.specs.declared.append.Check.the-variants as Check
+use Rattle.bitcask.specs.declared.engine.mark.Mark.{Mark}
+use Rattle.bitcask.specs.engine.Marks.{markOf}
+use Rattle.bitcask.specs.engine.Rows.{rows}
+use Rattle.bitcask.specs.engine.Spots.{hasRow}
 use Rattle.mvcc.specs.declared.handle.Handle.{Handle}
 use Rattle.mvcc.specs.handle.Handles.{soundHandle, blankHandle}
-use Rattle.mvcc.specs.request.Looks.{liveOf}
 use Rattle.mvcc.specs.request.Checks.{activeKey, openBy, admitBy}
-use Rattle.mvcc.proofs.request.CheckLaws.{open-agrees, open-never, open-ever}
+use Rattle.mvcc.proofs.request.CheckLaws.{open-never, open-ever}
 use Rattle.mvcc.specs.declared.begun.Begun.{Begun}
+use Rattle.mvcc.specs.declared.admission.Admitted.{Admitted}
+use Rattle.mvcc.specs.declared.admission.Admitted.the-variants.{Fine, Refused}
+use Rattle.mvcc.specs.admission.Admits.{checkOf, Admits}
+use Rattle.mvcc.proofs.admission.AdmitLaws.{open-rows}
 use Rattle.mvcc.specs.read.Promises.{resumedBy, resumeAnswer, Resumes}
 
 -- ---- the parts of an answer
@@ -62,26 +67,25 @@ module _ (used : ℕ) (h : Handle) where
 
 -- ---- the promise
 
-module _ (log : List ℕ) (used : ℕ) (t : List ℕ) (h : Handle) {check : Check}
-    (ek : check ≡ admitBy (fit (length log) used (length t)) (soundHandle h) (openBy h (liveOf log (activeKey h) (slotsOf (countOf t) t)))) where
-  keeps : {r : Begun} → r ≡ resumedBy check used h → Resumes log used t h r
+module _ (log : List ℕ) (used : Used) (t : List ℕ) (h : Handle) {a : Admitted} (w : Admits log used t h a) where
+  keeps : {r : Begun} → r ≡ resumedBy (checkOf a) (used .len) h → Resumes log (used .len) t h r
   unfolding resumeAnswer
   keeps {r} e =
-      let f : Bool = fit (length log) used (length t) in
+      let f : Bool = fit (length log) (used .len) (length t) in
       let g : Bool = soundHandle h in
-      let live : Bool = liveOf log (activeKey h) (slotsOf (countOf t) t) in
-      let q : r ≡ resumedBy (admitBy f g (openBy h live)) used h = e ∙ ap (λ (x : Check). resumedBy x used h) ek in
+      let live : Bool = hasRow (activeKey h) (rows log t (markOf used t)) in
+      let q : r ≡ resumedBy (admitBy f g (openBy h live)) (used .len) h = e ∙ ap (λ (x : Check). resumedBy x (used .len) h) (w .check) in
       record {
-        handle = rw q (handle-by used h f g (openBy h live));
-        stays = rw q (stays-by used h f g (openBy h live));
-        bad = rw q (bad-by used h f g (openBy h live));
-        never = λ o. ap (λ (x : Begun). eqb (changedNumber (x .answer)) 3) q ∙ rw (open-never h live o) (never-by used h f g);
-        ever = λ o. ap (λ (x : Begun). eqb (changedNumber (x .answer)) 0) q ∙ rw (open-ever h live o) (ever-by used h f g);
-        answer = λ a. q ∙ rw (open-agrees log used t h a);
+        handle = rw q (handle-by (used .len) h f g (openBy h live));
+        stays = rw q (stays-by (used .len) h f g (openBy h live));
+        bad = rw q (bad-by (used .len) h f g (openBy h live));
+        never = λ o. ap (λ (x : Begun). eqb (changedNumber (x .answer)) 3) q ∙ rw (open-never h live o) (never-by (used .len) h f g);
+        ever = λ o. ap (λ (x : Begun). eqb (changedNumber (x .answer)) 0) q ∙ rw (open-ever h live o) (ever-by (used .len) h f g);
+        answer = λ z. q ∙ rw (open-rows log used t h z);
       }
 
-  pub resume-refused : (r : Refusal) (b : Handle) → check ≡ Check.Refused r → b ≡ blankHandle → Resumes log used t h (record { answer = Change.Refused r; handle = b })
+  pub resume-refused : (r : Refusal) (b : Handle) → a ≡ Refused r → b ≡ blankHandle → Resumes log (used .len) t h (record { answer = Change.Refused r; handle = b })
   resume-refused r b e eb = keeps (rw (e, eb))
 
-  pub resume-done : check ≡ Check.Fine → Resumes log used t h (record { answer = Change.Done (record { len = used }); handle = h })
-  resume-done e = keeps (rw e)
+  pub resume-done : (m : Mark) → a ≡ Fine m → Resumes log (used .len) t h (record { answer = Change.Done used; handle = h })
+  resume-done m e = keeps (rw e)

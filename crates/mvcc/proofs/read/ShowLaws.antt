@@ -13,14 +13,16 @@ use Rattle.keycode.specs.key.Keys.{decodeWhy, forget}
 use Rattle.keycode.specs.declared.refusal.Refusal.the-variants.{Absent, KeyTooLong, BadStore}
 use Rattle.keycode.specs.declared.parts.Part.{Part}
 use Rattle.keycode.proofs.Basics.{nope}
-use Rattle.bitcask.specs.declared.keydir.slots.Slot.{Slot}
-use Rattle.bitcask.specs.keydir.Slots.{keyOf, valueOf}
-use Rattle.bitcask.specs.recovery.Recover.{recovered, view, mapOf}
+use Rattle.bitcask.specs.keydir.Place.{All, all-none, all-more}
+use Rattle.bitcask.specs.recovery.Map.{pairsOf}
+use Rattle.bitcask.specs.recovery.Recover.{mapOf}
 use Rattle.bitcask.specs.recovery.Agree.{fit, Agrees}
-use Rattle.bitcask.proofs.recovery.ViewLaws.{pairOf}
 use Rattle.bitcask.specs.declared.answers.Located.{Located}
 use Rattle.bitcask.specs.declared.answers.Located.the-variants as Got
-use Rattle.bitcask.specs.read.Promises.{valuePart}
+use Rattle.bitcask.specs.engine.Rows.{Row, valuePlace, pairs, rowsIn, Stands}
+use Rattle.bitcask.specs.engine.Ranges.{keepRows}
+use Rattle.bitcask.proofs.engine.RowLaws.{in-stand}
+use Rattle.bitcask.proofs.engine.RangeLaws.{keep-in, keep-all}
 use Rattle.mvcc.specs.declared.handle.Handle.{Handle}
 use Rattle.mvcc.specs.declared.payload.VersionRead.{VersionRead}
 use Rattle.mvcc.specs.declared.payload.VersionRead.the-variants.{Read, Bad as NoVersion}
@@ -28,16 +30,14 @@ use Rattle.mvcc.specs.declared.payload.ValueRead.{ValueRead}
 use Rattle.mvcc.specs.declared.payload.ValueRead.the-variants as Payload
 use Rattle.mvcc.specs.handle.Handles.{sees, soundHandle}
 use Rattle.mvcc.specs.payload.Payloads.{valueIn, valueAt}
-use Rattle.mvcc.specs.request.Ranges.{keep, pairsOf}
 use Rattle.mvcc.specs.request.Checks.{admitBy, openIn}
-use Rattle.mvcc.proofs.request.RangeLaws.{keep-map}
 use Rattle.mvcc.proofs.request.LookLaws.{drop-take}
 use Rattle.mvcc.specs.declared.version.Seen.{Seen}
 use Rattle.mvcc.specs.declared.version.Seen.the-variants.{Hidden, Gone, Bad, Value}
-use Rattle.mvcc.specs.version.Seen.{versionOf, saysBy, valueSays, seenBy, seenIn, orElse, lastSeen, locatedSeen, versionTest, pairBy, pairSays, orPair, lastPair, orGone, valueFor}
+use Rattle.mvcc.specs.version.Seen.{versionOf, saysBy, rowSays, seenBy, seenRow, orElse, lastRows, locatedSeen, versionTest, pairBy, pairSays, orPair, lastPair, orGone, valueFor}
 use Rattle.mvcc.specs.read.Promises.{checked, getAnswer, Gets}
 
--- ---- a walk over slots is the walk over their pairs
+-- ---- a walk over rows that stand in their log is the walk over their pairs
 
 -- the bytes at the place that a walk found
 abbrev shownBy : List ℕ → Seen → Option (Option (Option (List ℕ)))
@@ -47,23 +47,23 @@ shownBy log Bad = some none
 shownBy log (Value p) = some (some (some (take (p .len) (drop (p .at) log))))
 
 module _ (h : Handle) (log : List ℕ) where
-  value-view : (s : Slot) (v : ValueRead) → shownBy log (saysBy (valuePart s) v) ≡ some (valueAt (valueOf log s) v)
-  unfolding valueOf
-  value-view s (Payload.Value k) =
+  value-view : (r : Row) → Stands log r → (v : ValueRead) → shownBy log (saysBy (valuePlace r) v) ≡ some (valueAt (r .value) v)
+  value-view r w (Payload.Value k) =
       ap (λ (x : List ℕ). some (some (some x)))
-      (ap (take (s .vlen - k)) (sym (drop-drop k (s .place + 7 + s .klen) log)) ∙ drop-take k (s .vlen) (drop (s .place + 7 + s .klen) log))
-  value-view s Payload.Gone = refl
-  value-view s Payload.Bad = refl
+      (ap (take (length (r .value) - k)) (sym (drop-drop k (r .at + length (r .key)) log)) ∙ drop-take k (length (r .value)) (drop (r .at + length (r .key)) log)
+      ∙ ap (drop k) (w .value))
+  value-view r w Payload.Gone = refl
+  value-view r w Payload.Bad = refl
 
-  seen-view : (s : Slot) → shownBy log (seenIn h log s) ≡ pairSays h (pairOf log s)
-  unfolding seenIn pairSays valueSays
-  seen-view s = go (versionOf (forget (decodeWhy maxKey (keyOf log s))))
+  seen-view : (r : Row) → Stands log r → shownBy log (seenRow h r) ≡ pairSays h (record { key = r .key; value = r .value })
+  unfolding seenRow pairSays rowSays
+  seen-view r w = go (versionOf (forget (decodeWhy maxKey (r .key))))
     where
-      by : (b : Bool) → shownBy log (pick b (saysBy (valuePart s) (valueIn (valueOf log s))) Hidden) ≡ pick b (some (valueAt (valueOf log s) (valueIn (valueOf log s)))) none
-      by true = value-view s (valueIn (valueOf log s))
+      by : (b : Bool) → shownBy log (pick b (saysBy (valuePlace r) (valueIn (r .value))) Hidden) ≡ pick b (some (valueAt (r .value) (valueIn (r .value)))) none
+      by true = value-view r w (valueIn (r .value))
       by false = refl
 
-      go : (v : VersionRead) → shownBy log (seenBy h (saysBy (valuePart s) (valueIn (valueOf log s))) v) ≡ pairBy h (valueAt (valueOf log s) (valueIn (valueOf log s))) v
+      go : (v : VersionRead) → shownBy log (seenBy h (saysBy (valuePlace r) (valueIn (r .value))) v) ≡ pairBy h (valueAt (r .value) (valueIn (r .value))) v
       go NoVersion = refl
       go (Read v) = by (sees h v)
 
@@ -73,10 +73,10 @@ module _ (h : Handle) (log : List ℕ) where
   or-view Bad b = refl
   or-view (Value p) b = refl
 
-  last-view : (ss : List Slot) → shownBy log (lastSeen h log ss) ≡ lastPair h (view log ss)
-  unfolding lastSeen lastPair view
-  last-view [] = refl
-  last-view (s ∷ ss) = or-view (lastSeen h log ss) (seenIn h log s) ∙ rw (last-view ss, seen-view s)
+  last-view : {rs : List Row} → All (Stands log) rs → shownBy log (lastRows h rs) ≡ lastPair h (pairs rs)
+  unfolding lastRows lastPair pairs
+  last-view all-none = refl
+  last-view (all-more {x = r} {xs = rs} w a) = or-view (lastRows h rs) (seenRow h r) ∙ rw (last-view a, seen-view r w)
 
 -- ---- answers taken back to what the walk found
 
@@ -128,13 +128,13 @@ module _ (log : List ℕ) (s : Seen) where
 
 module _ {log : List ℕ} {used : ℕ} {t : List ℕ} {h : Handle} {key : List ℕ} {r : Located} (a : Agrees log used t) (w : Gets log used t h key r) where
   found : Seen
-  found = lastSeen h log (keep (versionTest key (h .version)) log (recovered log used))
+  found = lastRows h (keepRows (versionTest key (h .version)) (rowsIn log used))
 
   value-is : valueFor h (pairsOf (versionTest key (h .version)) (mapOf log used)) ≡ orGone (shownBy log found)
   unfolding valueFor found
   value-is =
-      rw (← keep-map log (versionTest key (h .version)) used)
-      (ap orGone (sym (last-view h log (keep (versionTest key (h .version)) log (recovered log used)))))
+      rw (← keep-in (versionTest key (h .version)) log used)
+      (ap orGone (sym (last-view h log (keep-all (versionTest key (h .version)) (in-stand log used)))))
 
   -- the bytes at the place are the value that the handle sees in the map
   pub get-shows : (p : Part) → r ≡ Got.At p → valueFor h (pairsOf (versionTest key (h .version)) (mapOf log used)) ≡ some (some (take (p .len) (drop (p .at) log)))

@@ -30,7 +30,7 @@ use Rattle.keycode.proofs.key.KeyOrder.{order-tags, order-version}
 use Rattle.bitcask.specs.declared.answers.Bound.the-variants.{Included}
 use Rattle.bitcask.specs.read.Ranks.{admitsLow, admitsHigh}
 use Rattle.mvcc.specs.declared.payload.VersionRead.the-variants as Version
-use Rattle.mvcc.specs.request.Ranges.{inside}
+use Rattle.bitcask.specs.engine.Ranges.{inside}
 use Rattle.mvcc.specs.version.Seen.{versionOf, versionTest}
 
 -- the test by the two orders that it asks for

@@ -1,6 +1,6 @@
 -- The read-only begin: its answer by what the code has seen, and its promise. Assumes nothing.
 use Prim.Native.Nat.{ℕ, _+_, _≤_, _<_}
-use mathlib.Core.Path.{_≡_, refl, _∙_}
+use mathlib.Core.Path.{_≡_, refl, ap, _∙_}
 use mathlib.Core.Bool.{Bool, true, false}
 use mathlib.Core.Option.{Option, none, some}
 use mathlib.Core.List.{List, []}
@@ -11,12 +11,18 @@ use lib.ListN.{length}
 use borrow.Author.Tests.{le-leb, lt-leb}
 use Rattle.keycode.specs.Tests.{pick, ifDone}
 use Rattle.keycode.specs.Limits.{maxOpen}
+use Rattle.keycode.specs.declared.refusal.Refusal.{Refusal}
 use Rattle.keycode.specs.declared.refusal.Refusal.the-variants.{TooManyOpen, BadStore, BadRequest}
 use Rattle.keycode.proofs.Basics.{nope}
 use Rattle.keycode.proofs.NumberLaws.{Bytes}
-use Rattle.bitcask.specs.keydir.Slots.{slotsOf}
-use Rattle.bitcask.specs.keydir.Place.{countOf}
-use Rattle.bitcask.specs.recovery.Agree.{fit}
+use Rattle.bitcask.specs.declared.request.Used.{Used}
+use Rattle.bitcask.specs.recovery.Recover.{mapOf}
+use Rattle.bitcask.specs.declared.engine.mark.Mark.{Mark}
+use Rattle.bitcask.specs.declared.engine.mark.Entered.{Entered}
+use Rattle.bitcask.specs.declared.engine.mark.Entered.the-variants as Entering
+use Rattle.bitcask.specs.engine.Rows.{rows}
+use Rattle.bitcask.specs.engine.Marks.{enteredBy}
+use Rattle.bitcask.proofs.engine.SpotLaws.{in-fits, in-agreeing, refused-fits}
 use Rattle.mvcc.specs.declared.handle.Handle.{Handle}
 use Rattle.mvcc.specs.declared.payload.VersionRead.{VersionRead}
 use Rattle.mvcc.specs.declared.payload.VersionRead.the-variants.{Read, Bad as BadVersion}
@@ -26,7 +32,7 @@ use Rattle.mvcc.specs.declared.snapshot.Seen.{Seen}
 use Rattle.mvcc.specs.declared.snapshot.Tally.{Tally}
 use Rattle.mvcc.specs.declared.snapshot.Tally.the-variants.{Open, Bad}
 use Rattle.mvcc.specs.declared.begun.Begun.{Begun}
-use Rattle.mvcc.specs.snapshot.Active.{nextIn, versionsIn, keysIn, activeSlots, seenFrom, seenBy}
+use Rattle.mvcc.specs.snapshot.Active.{nextIn, nextAt, versionsIn, keysIn, activeRows, activeAt, seenFrom, seenBy}
 use Rattle.mvcc.specs.request.Given.{refusedBy, begunWith, begunNumber}
 use Rattle.mvcc.specs.read_only.Answers.{readingBy}
 use Rattle.mvcc.specs.read_only.Promises.{BeginsReading}
@@ -61,31 +67,38 @@ reading-blank used (Read v) (some vs) = go (leb (length vs) maxOpen)
     go true = (refl, refl)
     go false = (refl, refl)
 
-module _ (log : List ℕ) (used : ℕ) (t : List ℕ) {r : Begun} where
-  pub reading-sizes : fit (length log) used (length t) ≡ false → r ≡ refusedBy BadRequest → BeginsReading log used t r
-  reading-sizes f e = rw e (record { blank = refl; bad = rw f; answer = λ g. nope (cc (g .sound, f)) })
+module _ (log : List ℕ) (used : Used) (t : List ℕ) {a : Entered} (ea : a ≡ enteredBy log used t) {r : Begun} where
+  pub reading-sizes : (x : Refusal) → a ≡ Entering.Refused x → r ≡ refusedBy x → BeginsReading log (used .len) t r
+  reading-sizes x e q =
+      let w = refused-fits log used t a ea x e in
+      let z : r ≡ refusedBy BadRequest = q ∙ ap refusedBy (w .1) in
+      rw z (record { blank = refl; bad = rw (w .0); answer = λ g. nope (cc (g .sound, w .0)) })
 
-  module _ (f : fit (length log) used (length t) ≡ true) (b : Bytes log) {n : ℕ} (en : n ≡ countOf t) {s : Seen}
-      (seen : s ≡ seenBy true (nextIn log (slotsOf n t)) (versionsIn (keysIn log (activeSlots log (slotsOf n t))))) where
-    reading-made : r ≡ readingOf used (s .tally) (s .handle) → BeginsReading log used t r
-    reading-made e =
-        let v = nextIn log (slotsOf (countOf t) t) in
-        let o = versionsIn (keysIn log (activeSlots log (slotsOf (countOf t) t))) in
-        let q : r ≡ readingBy used v o = e ∙ rw (seen, en) (reading-seen used v o) in
-        let z = reading-blank used v o in
+  module _ (m : Mark) (e : a ≡ Entering.In m) (b : Bytes log) {s : Seen}
+      (seen : s ≡ seenBy true (nextIn (rows log t m)) (versionsIn (keysIn (activeRows (rows log t m))))) where
+    reading-made : r ≡ readingOf (used .len) (s .tally) (s .handle) → BeginsReading log (used .len) t r
+    reading-made y =
+        let v = nextIn (rows log t m) in
+        let o = versionsIn (keysIn (activeRows (rows log t m))) in
+        let f = in-fits log used t a ea m e in
+        let u : m .used .len ≡ used .len = ap (λ (k : Mark). k .used .len) (f .1) in
+        let q : r ≡ readingBy (used .len) v o = y ∙ rw seen (reading-seen (used .len) v o) in
+        let z = reading-blank (used .len) v o in
         rw q
         (record {
           blank = z .0;
-          bad = z .1 ∙ rw f;
-          answer = λ g. rw (next-agrees log used t g, active-agrees log used t g b);
+          bad = z .1 ∙ rw (f .0);
+          answer = λ g. let h = in-agreeing log used t a ea m e g in
+              ap (λ (x : VersionRead). readingBy (used .len) x o) (next-agrees log t m h) ∙ ap (readingBy (used .len) (nextAt (mapOf log (m .used .len)))) (active-agrees log t m h b)
+              ∙ ap (λ (n : ℕ). readingBy (used .len) (nextAt (mapOf log n)) (activeAt (mapOf log n))) u;
         })
 
-    pub reading-bad : s .tally ≡ Bad → r ≡ refusedBy BadStore → BeginsReading log used t r
-    reading-bad e q = reading-made (q ∙ rw e)
+    pub reading-bad : s .tally ≡ Bad → r ≡ refusedBy BadStore → BeginsReading log (used .len) t r
+    reading-bad y q = reading-made (q ∙ rw y)
 
-    module _ (k : ℕ) (e : s .tally ≡ Open k) where
-      pub reading-many : maxOpen < k → r ≡ refusedBy TooManyOpen → BeginsReading log used t r
-      reading-many h q = reading-made (q ∙ rw (e, lt-leb k maxOpen h))
+    module _ (k : ℕ) (y : s .tally ≡ Open k) where
+      pub reading-many : maxOpen < k → r ≡ refusedBy TooManyOpen → BeginsReading log (used .len) t r
+      reading-many h q = reading-made (q ∙ rw (y, lt-leb k maxOpen h))
 
-      pub reading-done : k ≤ maxOpen → r ≡ begunWith used (s .handle) → BeginsReading log used t r
-      reading-done h q = reading-made (q ∙ rw (e, le-leb k maxOpen h))
+      pub reading-done : k ≤ maxOpen → r ≡ begunWith (used .len) (s .handle) → BeginsReading log (used .len) t r
+      reading-done h q = reading-made (q ∙ rw (y, le-leb k maxOpen h))

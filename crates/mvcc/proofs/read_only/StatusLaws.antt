@@ -1,56 +1,52 @@
--- The transactions' status: the count by numbers, and its promise. Assumes nothing.
-use Prim.Native.Nat.{ℕ, _-_, _≤_, _<_}
+-- The transactions' status: the count by ranks, and its promise. Assumes nothing.
+use Prim.Native.Nat.{ℕ, _-_, _<_}
 use mathlib.Core.Path.{_≡_, refl, sym, ap, _∙_}
 use mathlib.Core.Bool.{Bool, true, false}
 use mathlib.Core.Option.{Option, none, some}
 use mathlib.Core.List.{List, [], _∷_}
 use native.Mathlib.Omega.{arith}
 use lib.Dec.{eqb}
-use lib.ListN.{length, length-take, length-drop}
+use lib.ListN.{length}
 use borrow.Author.Tests.{eqb-false}
 use Rattle.keycode.specs.Tests.{pick}
-use Rattle.keycode.specs.Prefix.{prefixEnd}
-use Rattle.keycode.specs.declared.refusal.Refusal.the-variants.{BadStore, BadRequest}
+use Rattle.keycode.specs.declared.refusal.Refusal.{Refusal}
+use Rattle.keycode.specs.declared.refusal.Refusal.the-variants.{BadStore}
 use Rattle.keycode.proofs.Basics.{nope}
 use Rattle.keycode.proofs.NumberLaws.{Bytes}
-use Rattle.bitcask.specs.declared.keydir.slots.Slot.{Slot}
-use Rattle.bitcask.specs.keydir.Slots.{slotsOf}
-use Rattle.bitcask.specs.keydir.Place.{countOf}
-use Rattle.bitcask.proofs.keydir.SlotLaws.{slots-length}
+use Rattle.bitcask.specs.declared.request.Used.{Used}
 use Rattle.bitcask.specs.recovery.Recover.{mapOf}
-use Rattle.bitcask.specs.recovery.Agree.{fit, Agrees}
-use Rattle.bitcask.specs.declared.answers.Bound.the-variants.{Included}
+use Rattle.bitcask.specs.recovery.Agree.{Agrees}
+use Rattle.bitcask.specs.declared.engine.mark.Mark.{Mark}
+use Rattle.bitcask.specs.declared.engine.mark.Entered.{Entered}
+use Rattle.bitcask.specs.declared.engine.mark.Entered.the-variants as Entering
+use Rattle.bitcask.specs.declared.engine.span.Span.{Span}
+use Rattle.bitcask.specs.engine.Rows.{Row, rows}
+use Rattle.bitcask.specs.engine.Marks.{enteredBy}
+use Rattle.bitcask.specs.engine.Spots.{rank}
+use Rattle.bitcask.specs.engine.Prefixes.{Prefixes}
+use Rattle.bitcask.proofs.engine.SpotLaws.{in-fits, in-agreeing, refused-fits}
+use Rattle.bitcask.proofs.engine.SpanLaws.{width-rows}
+use Rattle.bitcask.proofs.engine.PrefixLaws.{prefix-within}
 use Rattle.mvcc.specs.declared.payload.VersionRead.{VersionRead}
 use Rattle.mvcc.specs.declared.payload.VersionRead.the-variants.{Read, Bad}
 use Rattle.mvcc.specs.payload.Payloads.{versionIn}
-use Rattle.mvcc.specs.declared.range.Span.{Span}
-use Rattle.mvcc.specs.request.Ranges.{Spans, slice, endBound, endBytes, activePrefix, prefixIn}
-use Rattle.mvcc.proofs.request.RangeLaws.{span-range}
+use Rattle.mvcc.specs.request.Ranges.{activePrefix}
 use Rattle.mvcc.specs.declared.report.Stated.the-variants.{Done, Refused}
-use Rattle.mvcc.specs.snapshot.Active.{nextBy, nextOf, nextIn, nextAt, keysIn, activeSlots, activeKeys}
+use Rattle.mvcc.specs.snapshot.Active.{nextBy, nextOf, nextIn, nextAt, keysIn, activeRows, activeKeys}
 use Rattle.mvcc.specs.read_only.Promises.{States}
+use Rattle.mvcc.proofs.snapshot.ActiveLaws.{active-rows}
 use Rattle.mvcc.proofs.snapshot.AgreedLaws.{next-agrees, keys-agree}
 
 -- ---- the count
 
-module _ (log t : List ℕ) (n : ℕ) {r : Span}
-    (w : Spans log (slotsOf n t) n Included activePrefix (endBound (prefixEnd activePrefix)) (endBytes activePrefix (prefixEnd activePrefix)) r) where
-  span-count : length (activeSlots log (slotsOf n t)) ≡ r .to - r .from
-  unfolding activeSlots prefixIn slice
-  span-count =
-      sym (ap length (span-range Included activePrefix (endBound (prefixEnd activePrefix)) (endBytes activePrefix (prefixEnd activePrefix)) log w))
-      ∙ simp (length-drop, length-take) (omega (arith, slots-length n t, w .within .1))
-
-  pub count-none : r .to ≤ r .from → 0 ≡ length (activeSlots log (slotsOf n t))
-  count-none h = omega (arith, span-count)
-
-  pub count-some : r .to - r .from ≡ length (activeSlots log (slotsOf n t))
-  count-some = sym span-count
-
-keys-length : (log : List ℕ) (ss : List Slot) → length (keysIn log ss) ≡ length ss
+keys-length : (rs : List Row) → length (keysIn rs) ≡ length rs
 unfolding keysIn
-keys-length log [] = refl
-keys-length log (s ∷ ss) = omega (arith, keys-length log ss)
+keys-length [] = refl
+keys-length (r ∷ rs) = omega (arith, keys-length rs)
+
+span-keys : (rs : List Row) (r : Span) → Prefixes rs activePrefix r → {k : ℕ} → k ≡ rank (r .to) rs - rank (r .from) rs → k ≡ length (keysIn (activeRows rs))
+span-keys rs r w e =
+    e ∙ sym (width-rows (r .from) (r .to) rs (prefix-within rs activePrefix w)) ∙ ap length (active-rows rs r w) ∙ sym (keys-length (activeRows rs))
 
 -- ---- NextVersion is not 0
 
@@ -67,27 +63,32 @@ unfolding nextOf
 of-positive none v e = let z : 1 ≡ v = cc in omega arith
 of-positive (some b) v e = by-positive (versionIn b) v e
 
-pub next-positive : (log : List ℕ) (ss : List Slot) {x : VersionRead} (v : ℕ) → x ≡ nextIn log ss → x ≡ Read v → 0 < v
+pub next-positive : (rs : List Row) {x : VersionRead} (v : ℕ) → x ≡ nextIn rs → x ≡ Read v → 0 < v
 unfolding nextIn
-next-positive log ss v e f = of-positive _ v (sym e ∙ f)
+next-positive rs v e f = of-positive _ v (sym e ∙ f)
 
 -- ---- the promise
 
-module _ (log : List ℕ) (used : ℕ) (t : List ℕ) where
-  pub states-sizes : fit (length log) used (length t) ≡ false → States log used t (Refused BadRequest)
-  states-sizes f = record { bad = rw f; answer = λ g. nope (cc (g .sound, f)) }
+module _ (log : List ℕ) (used : Used) (t : List ℕ) {a : Entered} (ea : a ≡ enteredBy log used t) where
+  pub states-sizes : (x : Refusal) → a ≡ Entering.Refused x → States log (used .len) t (Refused x)
+  states-sizes x e = let w = refused-fits log used t a ea x e in rw (w .1) (record { bad = rw (w .0); answer = λ g. nope (cc (g .sound, w .0)) })
 
-  module _ (f : fit (length log) used (length t) ≡ true) {n : ℕ} (en : n ≡ countOf t) {x : VersionRead} (ex : x ≡ nextIn log (slotsOf n t)) where
-    states-next : Agrees log used t → x ≡ nextAt (mapOf log used)
-    states-next g = ex ∙ rw en (next-agrees log used t g)
+  module _ (m : Mark) (e : a ≡ Entering.In m) {x : VersionRead} (ex : x ≡ nextIn (rows log t m)) where
+    lengths : m .used .len ≡ used .len
+    lengths = ap (λ (k : Mark). k .used .len) (in-fits log used t a ea m e .1)
 
-    pub states-bad : x ≡ Bad → States log used t (Refused BadStore)
-    states-bad e = record { bad = rw f; answer = λ g. rw (← states-next g, e) }
+    states-next : Agrees log (used .len) t → x ≡ nextAt (mapOf log (used .len))
+    states-next g = ex ∙ next-agrees log t m (in-agreeing log used t a ea m e g) ∙ ap (λ (n : ℕ). nextAt (mapOf log n)) lengths
 
-    pub states-done : Bytes log → (v : ℕ) → x ≡ Read v → {k : ℕ} → k ≡ length (activeSlots log (slotsOf n t)) → States log used t (Done (record { last = v - 1; «open» = k }))
-    states-done b v e {k} ek = record {
-      bad = rw f;
+    pub states-bad : x ≡ Bad → States log (used .len) t (Refused BadStore)
+    states-bad q = record { bad = rw (in-fits log used t a ea m e .0); answer = λ g. rw (← states-next g, q) }
+
+    pub states-done : Bytes log → (v : ℕ) → x ≡ Read v → (r : Span) → Prefixes (rows log t m) activePrefix r → {k : ℕ} → k ≡ rank (r .to) (rows log t m) - rank (r .from) (rows log t m)
+        → States log (used .len) t (Done (record { last = v - 1; «open» = k }))
+    states-done b v q r w {k} ek = record {
+      bad = rw (in-fits log used t a ea m e .0);
       answer = λ g.
-          let q : k ≡ length (activeKeys (mapOf log used)) = ek ∙ rw en (sym (keys-length log (activeSlots log (slotsOf (countOf t) t))) ∙ ap length (keys-agree log used t g b)) in
-          rw (← states-next g, e, q);
+          let z : k ≡ length (activeKeys (mapOf log (used .len))) =
+          span-keys (rows log t m) r w ek ∙ ap length (keys-agree log t m (in-agreeing log used t a ea m e g) b) ∙ ap (λ (n : ℕ). length (activeKeys (mapOf log n))) lengths in
+          rw (← states-next g, q, z);
     }

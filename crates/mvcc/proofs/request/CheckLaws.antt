@@ -1,32 +1,19 @@
--- The checks that come first, by what the code finds, in the words of the map, and their numbers. Assumes nothing.
+-- The checks that come first, and their numbers. Assumes nothing.
 use Prim.Native.Nat.{ℕ, _-_, _^_}
-use mathlib.Core.Path.{_≡_, refl, sym, ap, _∙_}
+use mathlib.Core.Path.{_≡_, refl}
 use mathlib.Core.Bool.{Bool, true, false, not}
-use mathlib.Core.List.{List}
 use native.Mathlib.Omega.{arith}
 use lib.Dec.{eqb}
-use lib.ListN.{length, take}
 use borrow.Author.Tests.{eq-eqb, ne-eqb}
 use Rattle.keycode.specs.Tests.{pick}
 use Rattle.keycode.specs.Refusals.{numberOf}
 use Rattle.keycode.specs.declared.refusal.Refusal.{Refusal}
-use Rattle.keycode.specs.declared.refusal.Refusal.the-variants.{NotOpen, BadRequest}
 use Rattle.keycode.proofs.Basics.{nope}
 use Rattle.keycode.proofs.BufferLaws.{refused-stays}
-use Rattle.bitcask.specs.declared.keydir.slots.Slot.{Slot}
-use Rattle.bitcask.specs.keydir.Slots.{slotsOf}
-use Rattle.bitcask.specs.keydir.Place.{countOf}
-use Rattle.bitcask.specs.recovery.Recover.{mapOf}
-use Rattle.bitcask.specs.recovery.Agree.{fit, Agrees}
 use Rattle.bitcask.specs.declared.append.Check.{Check}
-use Rattle.bitcask.specs.declared.append.Check.the-variants.{Fine, Refused}
-use Rattle.keycode.specs.declared.code.Code.{Code}
+use Rattle.bitcask.specs.declared.append.Check.the-variants.{Fine}
 use Rattle.mvcc.specs.declared.handle.Handle.{Handle}
-use Rattle.keycode.specs.code.Codes.{Codes}
-use Rattle.mvcc.specs.handle.Handles.{soundHandle}
-use Rattle.mvcc.specs.request.Looks.{liveOf, liveIn}
-use Rattle.mvcc.specs.request.Checks.{activeKey, ownVersion, openBy, admitBy, checkNumber, onFine}
-use Rattle.mvcc.proofs.request.LookLaws.{live-agrees}
+use Rattle.mvcc.specs.request.Checks.{ownVersion, openBy, admitBy, checkNumber, onFine}
 
 -- ---- open
 
@@ -49,41 +36,7 @@ module _ (h : Handle) (live : Bool) where
       unfolding openBy ownVersion
       open-live m = rw (r, ne-eqb (h .version) 0 n, ne-eqb (h .version) (2 ^ 64 - 1) m)
 
--- the look-up of the handle's key by its code
-pub open-look : (log : List ℕ) (ss : List Slot) (h : Handle) (c : Code) (b : Bool) → h .«read_only» ≡ false → (h .version ≡ 0 → ⊥) → (h .version ≡ 2 ^ 64 - 1 → ⊥) → Codes c (activeKey h)
-    → b ≡ liveOf log (take (c .len) (c .bytes)) ss → b ≡ openBy h (liveOf log (activeKey h) ss)
-open-look log ss h c b r n m w e = e ∙ rw (w .says) (open-live h (liveOf log (activeKey h) ss) r n m)
-
--- the code's count is the table's
-pub open-counted : (log t : List ℕ) (h : Handle) (n : ℕ) (b : Bool) → n ≡ countOf t → b ≡ openBy h (liveOf log (activeKey h) (slotsOf n t))
-    → openBy h (liveOf log (activeKey h) (slotsOf (countOf t) t)) ≡ b
-open-counted log t h n b en eb = sym (eb ∙ rw en)
-
--- the whole test of a handle against a map
-pub open-agrees : (log : List ℕ) (used : ℕ) (t : List ℕ) (h : Handle) → Agrees log used t
-    → openBy h (liveOf log (activeKey h) (slotsOf (countOf t) t)) ≡ openBy h (liveIn (activeKey h) (mapOf log used))
-open-agrees log used t h g = ap (openBy h) (live-agrees log used t g (activeKey h))
-
 -- ---- admit
-
-module _ (fits sound active : Bool) where
-  pub admit-sizes : fits ≡ false → Refused BadRequest ≡ admitBy fits sound active
-  unfolding admitBy
-  admit-sizes f = rw f
-
-  module _ (f : fits ≡ true) where
-    pub admit-handle : sound ≡ false → Refused BadRequest ≡ admitBy fits sound active
-    unfolding admitBy
-    admit-handle s = rw (f, s)
-
-    module _ (s : sound ≡ true) where
-      pub admit-closed : active ≡ false → Refused NotOpen ≡ admitBy fits sound active
-      unfolding admitBy
-      admit-closed a = rw (f, s, a)
-
-      pub admit-open : active ≡ true → Fine ≡ admitBy fits sound active
-      unfolding admitBy
-      admit-open a = rw (f, s, a)
 
 -- no refusal has number 0
 pub not-done : (r : Refusal) → numberOf r ≡ 0 → ⊥
@@ -103,11 +56,6 @@ admit-not-open true true true = refl
 admit-not-open true true false = refl
 admit-not-open true false active = refl
 admit-not-open false sound active = refl
-
--- under agreement the sizes are right, and the rest is asked of the map
-pub admit-agrees : (log : List ℕ) (used : ℕ) (t : List ℕ) (h : Handle) → Agrees log used t
-    → admitBy (fit (length log) used (length t)) (soundHandle h) (openBy h (liveOf log (activeKey h) (slotsOf (countOf t) t))) ≡ admitBy true (soundHandle h) (openBy h (liveIn (activeKey h) (mapOf log used)))
-admit-agrees log used t h g = rw (g .sound, open-agrees log used t h g)
 
 -- what a check that passed says
 pub record Admitted (fits sound active : Bool) : Type 0 where

@@ -17,7 +17,7 @@ use Rattle.keycode.proofs.Basics.{nope}
 use Rattle.bitcask.specs.entry.Entry.{Entry, set, del, entryKey, sizeOf}
 use Rattle.bitcask.specs.keydir.Slots.{slotWords, slotsOf}
 use Rattle.bitcask.specs.keydir.Place.{All, all-none, all-more, countOf}
-use Rattle.bitcask.specs.recovery.Map.{Pair, lookIn, putIn, cutIn, after}
+use Rattle.bitcask.specs.recovery.Map.{Pair, lookIn, putIn, cutIn, after, liveIn}
 use Rattle.bitcask.specs.recovery.Recover.{mapOf}
 use Rattle.bitcask.specs.recovery.Agree.{Agrees}
 use Rattle.bitcask.proofs.recovery.MapLaws.{put-other}
@@ -25,7 +25,6 @@ use Rattle.bitcask.proofs.recovery.AgreeLaws.{agrees-sound, agrees-count, agree
 use Rattle.bitcask.specs.declared.append.Room.the-variants.{Left, Full}
 use Rattle.bitcask.specs.declared.append.Check.the-variants.{Fine}
 use Rattle.bitcask.specs.change.Append.{judge, sizeAll, afterAll, appendAnswer}
-use Rattle.mvcc.specs.request.Looks.{liveIn}
 use Rattle.mvcc.specs.request.Lists.{appendedAll, roomAll, Sets, sets-none, sets-more, Dels, dels-none, dels-more, Apart, apart-more, newIn, newAll, freshAll, Fitting, fitting-none, fitting-more, checkOf}
 use Rattle.mvcc.proofs.request.LookLaws.{fresh-agrees}
 use Rattle.mvcc.proofs.request.ListLaws.{Appends, append-all}

@@ -9,18 +9,15 @@ use lib.Seq.{take-nil}
 use Rattle.bitcask.specs.declared.keydir.slots.Slot.{Slot}
 use Rattle.bitcask.specs.declared.keydir.place.Found.{Found}
 use Rattle.bitcask.specs.declared.keydir.place.Found.the-variants.{At, Before}
-use Rattle.bitcask.specs.keydir.Slots.{slotAt, slotsOf}
+use Rattle.bitcask.specs.keydir.Slots.{slotsOf}
 use Rattle.bitcask.specs.keydir.Place.{countOf, placeOf, placeIn}
-use Rattle.bitcask.proofs.keydir.SlotLaws.{slot-at-is}
-use Rattle.bitcask.specs.recovery.Map.{lookIn}
-use Rattle.bitcask.specs.recovery.Recover.{recovered, view, mapOf}
+use Rattle.bitcask.specs.recovery.Map.{lookIn, isSome, liveIn}
+use Rattle.bitcask.specs.recovery.Recover.{recovered, mapOf}
 use Rattle.bitcask.specs.recovery.Agree.{Agrees}
 use Rattle.bitcask.proofs.recovery.ViewLaws.{valueAt, look-view}
-use Rattle.bitcask.proofs.recovery.AgreeLaws.{agrees-slots, agrees-place}
+use Rattle.bitcask.proofs.recovery.AgreeLaws.{agrees-place}
 use Rattle.bitcask.specs.change.Append.{wants, freshIn}
-use Rattle.bitcask.proofs.read.RankLaws.{found-at}
-use Rattle.mvcc.specs.declared.lookup.Slotted.the-variants as Slots
-use Rattle.mvcc.specs.request.Looks.{isAt, liveOf, isSome, liveIn, slottedBy, slotOf, slotIn, slotValue}
+use Rattle.mvcc.specs.request.Looks.{isAt, liveOf}
 use Rattle.mvcc.specs.request.Lists.{newBy, newIn}
 
 -- ---- what the code answers
@@ -34,14 +31,6 @@ module _ (log key t : List ℕ) (n : ℕ) (f : Found) (says : f ≡ placeOf log 
   unfolding liveOf
   live-before e = rw (← says, e)
 
-  pub slot-found : (s : Slot) → f ≡ At i → s ≡ slotAt t i → Slots.At s ≡ slotOf log key (slotsOf n t)
-  unfolding slotOf
-  slot-found s e q = rw (← says, e) (ap Slots.At (q ∙ slot-at-is n t i (found-at log key t n f says i e)))
-
-  pub slot-missing : f ≡ Before i → Slots.None ≡ slotOf log key (slotsOf n t)
-  unfolding slotOf
-  slot-missing e = rw (← says, e)
-
 -- ---- under agreement
 
 module _ (log key : List ℕ) (ss : List Slot) where
@@ -49,29 +38,12 @@ module _ (log key : List ℕ) (ss : List Slot) where
   at-some (At i) = refl
   at-some (Before i) = refl
 
-  by-value : (f : Found) → slotValue log (slottedBy f ss) ≡ valueAt log key ss f
-  by-value (At i) = refl
-  by-value (Before i) = refl
-
-  -- the slot of a key holds what the map does
-  pub slot-value : slotValue log (slotIn log key ss) ≡ lookIn key (view log ss)
-  unfolding slotIn
-  slot-value = by-value (placeIn log key ss) ∙ look-view log key ss
-
 module _ (log : List ℕ) (used : ℕ) (t : List ℕ) (g : Agrees log used t) (key : List ℕ) where
   pub live-agrees : liveOf log key (slotsOf (countOf t) t) ≡ liveIn key (mapOf log used)
   unfolding liveOf liveIn mapOf
   live-agrees =
       ap isAt (agrees-place log used t g key) ∙ at-some log key (recovered log used) (placeIn log key (recovered log used))
       ∙ ap isSome (look-view log key (recovered log used))
-
-  pub slot-agrees : slotOf log key (slotsOf (countOf t) t) ≡ slotIn log key (recovered log used)
-  unfolding slotOf slotIn
-  slot-agrees = rw (agrees-place log used t g key, agrees-slots log used t g)
-
-  pub slot-shows : slotValue log (slotOf log key (slotsOf (countOf t) t)) ≡ lookIn key (mapOf log used)
-  unfolding mapOf
-  slot-shows = ap (slotValue log) slot-agrees ∙ slot-value log key (recovered log used)
 
   -- a key wants a slot where it is not in the map
   pub fresh-agrees : freshIn log key (slotsOf (countOf t) t) ≡ newIn key (mapOf log used)

@@ -11,8 +11,9 @@ use Rattle.keycode.specs.Number.{be, num}
 use Rattle.keycode.specs.key.Keys.{Fields, nextVersion, txnActive, txnActiveSnapshot, txnWrite, version, unversioned, encode}
 use Rattle.keycode.specs.Strings.{escape}
 use Rattle.keycode.proofs.NumberLaws.{length-be, num-any}
-use Rattle.mvcc.specs.request.Ranges.{begins, writePrefix}
-use Rattle.mvcc.proofs.request.RangeLaws.{begins-append, begins-split, same-tests}
+use Rattle.mvcc.specs.request.Ranges.{writePrefix}
+use Rattle.bitcask.specs.engine.Prefixes.{begins}
+use Rattle.bitcask.proofs.engine.PrefixLaws.{begins-append, begins-split, same-tests}
 
 -- the front of two runs whose first eight bytes are numbers
 number-front : (v w : ℕ) (s t : List ℕ) → be 8 w ++ s ≡ be 8 v ++ t → w ≡ v

@@ -1,28 +1,32 @@
--- The codes of bounds, and the slots between them, by what the code has learnt. Assumes nothing.
-use Prim.Native.Nat.{ℕ, _≤_, max}
+-- The codes of bounds, and the rows between them, by what the code has learnt. Assumes nothing.
+use Prim.Native.Nat.{ℕ, _+_, _≤_}
 use mathlib.Core.Path.{_≡_, refl, sym, ap, _∙_}
-use mathlib.Core.Bool.{Bool, true, false}
-use mathlib.Core.List.{List, [], _∷_}
+use mathlib.Core.Bool.{Bool, true, false, not}
+use mathlib.Core.List.{List, [], _∷_, _++_}
 use native.Mathlib.Omega.{arith}
 use lib.Dec.{leb}
-use lib.ListN.{length, take, replicate, length-take}
-use borrow.Author.Tests.{leb-true}
+use lib.ListN.{length, take, set, replicate, length-take, length-set}
+use borrow.Author.Tests.{leb-true, not-true, not-false}
 use Rattle.keycode.specs.Tests.{pick}
 use Rattle.keycode.specs.Limits.{maxKey}
-use Rattle.keycode.specs.Prefix.{searched}
-use Rattle.bitcask.specs.declared.keydir.slots.Slot.{Slot}
+use Rattle.keycode.specs.Order.{compareBytes}
+use Rattle.keycode.specs.Prefix.{searched, prefixEnd}
+use Rattle.keycode.specs.declared.prefix.End.{End}
+use Rattle.keycode.specs.declared.prefix.End.the-variants as Ends
+use Rattle.keycode.specs.declared.code.Code.{Code}
+use Rattle.keycode.specs.code.Codes.{Codes, keyBytes}
 use Rattle.bitcask.proofs.recovery.AgreeLaws.{both}
 use Rattle.bitcask.specs.declared.answers.Bound.{Bound}
-use Rattle.bitcask.specs.declared.answers.Bound.the-variants.{Included, Excluded}
+use Rattle.bitcask.specs.declared.answers.Bound.the-variants.{Included, Excluded, Unbounded}
 use Rattle.bitcask.specs.declared.answers.Stepped.{Stepped}
-use Rattle.bitcask.specs.read.Ranks.{fromBound, uptoBound}
-use Rattle.keycode.specs.declared.code.Code.{Code}
+use Rattle.bitcask.specs.read.Ranks.{admitsLow}
+use Rattle.bitcask.specs.engine.Rows.{Row}
+use Rattle.bitcask.specs.engine.Spots.{fromRank}
+use Rattle.bitcask.specs.engine.Prefixes.{endBound, endBytes}
 use Rattle.mvcc.specs.declared.handle.Handle.{Handle}
-use Rattle.keycode.specs.code.Codes.{Codes, keyBytes}
-use Rattle.mvcc.specs.declared.range.Span.{Span}
-use Rattle.mvcc.specs.request.Ranges.{slice, Prefixes}
-use Rattle.mvcc.specs.walk.Walks.{stepIn}
-use Rattle.mvcc.specs.scan.Bounds.{keyFits, lastFits, keysFit, prefixFits, lowKind, lowBytes, highKind, highBytes, lastFrom, pastSlots, scanSlots, prefixSlots}
+use Rattle.mvcc.specs.declared.scan.prefix.Upper.{Upper}
+use Rattle.mvcc.specs.walk.Walks.{upFrom, stepRows}
+use Rattle.mvcc.specs.scan.Bounds.{keyFits, lastFits, keysFit, prefixFits, lowKind, lowBytes, highKind, highBytes, startRank, pastRows, scanRows, prefixRows, Uppers}
 
 -- ---- one bound
 
@@ -46,25 +50,26 @@ five-code = record { whole = refl; within = omega arith; says = refl }
 pub code-short : {c : Code} {e : List ℕ} → Codes c e → length (take (c .len) (c .bytes)) ≤ keyBytes
 code-short {c} w = omega (arith, w .within, length-take (c .len) (c .bytes))
 
-module _ (log : List ℕ) (ss : List Slot) {b j : Bound} {code : Code} {e : List ℕ} {r : ℕ} (eb : b ≡ j) (w : Codes code e) where
-  pub from-by : r ≡ fromBound b log (take (code .len) (code .bytes)) ss → r ≡ fromBound j log e ss
-  from-by er = er ∙ rw (w .says, eb)
+-- ---- where a step starts
 
-  pub upto-by : r ≡ uptoBound b log (take (code .len) (code .bytes)) ss → r ≡ uptoBound j log e ss
-  upto-by er = er ∙ rw (w .says, eb)
+pub last-fits : (b : Bool) (k : List ℕ) → not b ≡ false → lastFits b k ≡ true → keyFits Excluded k ≡ true
+last-fits b k t f = ap (λ (x : Bool). lastFits x k) (sym (not-false b t)) ∙ f
 
--- ---- the last given key
+module _ (lower : Bound) (low : List ℕ) (given : Bool) (last : List ℕ) (rs : List Row) where
+  pub start-low : not given ≡ true → {n : ℕ} → n ≡ fromRank lower low rs → n ≡ startRank lower low given last rs
+  start-low t e = e ∙ ap (λ (g : Bool). startRank lower low g last rs) (sym (not-true given t))
 
-module _ {b : Bool} (k : List ℕ) where
-  pub last-fits : b ≡ true → lastFits b k ≡ true → keyFits Excluded k ≡ true
-  last-fits e f = ap (λ (x : Bool). lastFits x k) (sym e) ∙ f
+  module _ (t : not given ≡ false) {code : Code} (w : Codes code (lowBytes Excluded last)) {b : Bool} (eb : b ≡ admitsLow Excluded (compareBytes low (take (code .len) (code .bytes)))) where
+    start-by : (v : Bool) → b ≡ v → startRank lower low given last rs ≡ pick v (fromRank lower low rs) (fromRank Excluded (lowBytes Excluded last) rs)
+    start-by v q =
+        ap (λ (g : Bool). startRank lower low g last rs) (not-false given t)
+        ∙ ap (λ (x : Bool). pick x (fromRank lower low rs) (fromRank Excluded (lowBytes Excluded last) rs)) (ap (λ (x : List ℕ). admitsLow Excluded (compareBytes low x)) (sym (w .says)) ∙ sym eb ∙ q)
 
-  module _ (log : List ℕ) (ss : List Slot) where
-    pub last-given : b ≡ true → {r : ℕ} → r ≡ fromBound Excluded log (lowBytes Excluded k) ss → r ≡ lastFrom b log k ss
-    last-given e er = rw e er
+    pub start-later : b ≡ true → {n : ℕ} → n ≡ fromRank lower low rs → n ≡ startRank lower low given last rs
+    start-later q e = e ∙ sym (start-by true q)
 
-    pub last-none : b ≡ false → 0 ≡ lastFrom b log k ss
-    last-none e = rw e
+    pub start-past : b ≡ false → {n : ℕ} → n ≡ fromRank Excluded (take (code .len) (code .bytes)) rs → n ≡ startRank lower low given last rs
+    start-past q e = e ∙ ap (λ (x : List ℕ). fromRank Excluded x rs) (w .says) ∙ sym (start-by false q)
 
 -- ---- all of them
 
@@ -88,17 +93,32 @@ module _ (p : List ℕ) (given : Bool) (last : List ℕ) (f : prefixFits p given
   pub prefix-last : lastFits given last ≡ true
   prefix-last = both (leb (length p) maxKey) (lastFits given last) f .1
 
-module _ (h : Handle) (log : List ℕ) (ss : List Slot) (given : Bool) (last : List ℕ) where
-  pub past-by : (f t : ℕ) {b g : ℕ} {r : Stepped} → b ≡ lastFrom given log last ss → g ≡ max f b → r ≡ stepIn h log (slice g t ss) → r ≡ stepIn h log (slice (max f (lastFrom given log last ss)) t ss)
-  past-by f t eb eg er = er ∙ rw (eg, eb)
+module _ (h : Handle) (log : List ℕ) (rs : List Row) (given : Bool) (last : List ℕ) where
+  pub past-by : (lower : Bound) (low : List ℕ) (upper : Bound) (high : List ℕ) {n : ℕ} {r : Stepped} → n ≡ startRank lower low given last rs → r ≡ stepRows h log (upFrom upper high rs n)
+      → r ≡ stepRows h log (pastRows lower low upper high given last rs)
+  unfolding pastRows
+  past-by lower low upper high en er = er ∙ ap (λ (k : ℕ). stepRows h log (upFrom upper high rs k)) en
 
-  module _ (f t : ℕ) {r : Stepped} (er : r ≡ stepIn h log (slice (max f (lastFrom given log last ss)) t ss)) where
-    pub between-by : (lower : Bound) (low : List ℕ) (upper : Bound) (high : List ℕ) → f ≡ fromBound (lowKind lower) log (lowBytes lower low) ss → t ≡ uptoBound (highKind upper) log (highBytes upper high) ss
-        → r ≡ stepIn h log (scanSlots lower low upper high given last log ss)
-    unfolding pastSlots
-    between-by lower low upper high ef et = er ∙ rw (ef, et)
+  pub between-by : (lower : Bound) (low : List ℕ) (upper : Bound) (high : List ℕ) {a b : Code} {x y : Bound} {r : Stepped} → Codes a (lowBytes lower low) → Codes b (highBytes upper high)
+      → x ≡ lowKind lower → y ≡ highKind upper → r ≡ stepRows h log (pastRows x (take (a .len) (a .bytes)) y (take (b .len) (b .bytes)) given last rs) → r ≡ stepRows h log (scanRows lower low upper high given last rs)
+  between-by lower low upper high wa wb ex ey er = er ∙ (λ j. stepRows h log (pastRows (ex j) (wa .says j) (ey j) (wb .says j) given last rs))
 
-  pub begun-by : (p : List ℕ) {c : Code} {n : ℕ} {span : Span} → Codes c (searched p) → Prefixes log ss n (take (c .len) (c .bytes)) span
-      → {r : Stepped} → r ≡ stepIn h log (slice (max (span .from) (lastFrom given log last ss)) (span .to) ss) → r ≡ stepIn h log (prefixSlots p given last log ss)
-  unfolding pastSlots
-  begun-by p w z er = er ∙ rw (z .from, z .to, w .says)
+  pub begun-by : (p : List ℕ) {c : Code} {u : Upper} {r : Stepped} → Codes c (searched p) → Uppers (take (c .len) (c .bytes)) u
+      → r ≡ stepRows h log (pastRows Included (take (c .len) (c .bytes)) (u .bound) (take (u .code .len) (u .code .bytes)) given last rs) → r ≡ stepRows h log (prefixRows p given last rs)
+  begun-by p {c} w z er =
+      er ∙ (λ j. stepRows h log (pastRows Included (take (c .len) (c .bytes)) (z .bound j) (z .code .says j) given last rs))
+      ∙ ap (λ (x : List ℕ). stepRows h log (pastRows Included x (endBound (prefixEnd x)) (endBytes x (prefixEnd x)) given last rs)) (w .says)
+
+-- ---- the end of a prefix
+
+module _ (p : List ℕ) {u : End} (says : u ≡ prefixEnd p) (d : List ℕ) (whole : length d ≡ keyBytes) where
+  pub upper-open : u ≡ Ends.Unbounded → Uppers p (record { bound = Unbounded; code = record { len = 0; bytes = d } })
+  upper-open e =
+      let q : Ends.Unbounded ≡ prefixEnd p = sym e ∙ says in
+      record { bound = ap endBound q; code = record { whole = whole; within = omega arith; says = ap (endBytes p) q } }
+
+  pub upper-raised : (n l : ℕ) → u ≡ Ends.Raised n l → n + 1 ≤ keyBytes → take (n + 1) (set d n l) ≡ take n p ++ (l ∷ [])
+      → Uppers p (record { bound = Excluded; code = record { len = n + 1; bytes = set d n l } })
+  upper-raised n l e h k =
+      let q : Ends.Raised n l ≡ prefixEnd p = sym e ∙ says in
+      record { bound = ap endBound q; code = record { whole = length-set d n l ∙ whole; within = h; says = k ∙ ap (endBytes p) q } }

@@ -12,13 +12,11 @@ use Rattle.keycode.specs.declared.order.Order.the-variants.{Less, Equal, Greate
 use Rattle.keycode.proofs.Basics.{nope}
 use Rattle.keycode.proofs.OrderLaws.{compare-refl, compare-equal, compare-trans}
 use Rattle.keycode.proofs.StringLaws.{unescaped-body}
-use Rattle.bitcask.specs.declared.keydir.slots.Slot.{Slot}
-use Rattle.bitcask.specs.keydir.Slots.{keyOf}
 use Rattle.bitcask.specs.keydir.Place.{All, all-none, all-more}
 use Rattle.bitcask.specs.recovery.Map.{Pair as MapPair}
-use Rattle.bitcask.specs.recovery.Recover.{view}
+use Rattle.bitcask.specs.engine.Rows.{Row, pairs}
 use Rattle.mvcc.specs.declared.handle.Handle.{Handle}
-use Rattle.mvcc.proofs.request.RangeLaws.{same-tests}
+use Rattle.bitcask.proofs.engine.PrefixLaws.{same-tests}
 use Rattle.mvcc.specs.walk.Walks.{isEqual}
 use Rattle.mvcc.specs.scan.Steps.{Stamp, stampOf, Given, Sight, hidden, gone, bad, shows, sightOf, sameUser, isOf, anyOf, sightFor, orSight, highest, cleanBy, cleanTo, stepBy, stepOn, stepPairs}
 use Rattle.mvcc.proofs.scan.NameLaws.{Spelt, spelt, users-rise}
@@ -99,7 +97,7 @@ module _ (h : Handle) (k : List ℕ) where
       go (some z) f ih = ih (by (sameUser k (z .user)) f)
 
 -- past a key of a later user key there is none
-module _ (log : List ℕ) {b c : List ℕ} {s t : Stamp} (x : Spelt b s) (y : Spelt c t) (l : compareBytes b c ≡ Less) (d : sameUser (s .user) (t .user) ≡ false) where
+module _ {b c : List ℕ} {s t : Stamp} (x : Spelt b s) (y : Spelt c t) (l : compareBytes b c ≡ Less) (d : sameUser (s .user) (t .user) ≡ false) where
   users-less : compareBytes (s .user) (t .user) ≡ Less
   users-less = go (compareBytes (s .user) (t .user)) refl
     where
@@ -116,15 +114,15 @@ module _ (log : List ℕ) {b c : List ℕ} {s t : Stamp} (x : Spelt b s) (y : Sp
       go Equal q = ap (compareBytes (s .user)) (sym (compare-equal (t .user) (w .user) q)) ∙ users-less
       go Greater q = absurd (users-rise y v e q)
 
-  behind-other : (r : Slot) → compareBytes c (keyOf log r) ≡ Less → isOf (s .user) (stampOf (keyOf log r)) ≡ false
-  behind-other r e = go (stampOf (keyOf log r)) refl
+  behind-other : (r : Row) → compareBytes c (r .key) ≡ Less → isOf (s .user) (stampOf (r .key)) ≡ false
+  behind-other r e = go (stampOf (r .key)) refl
     where
-      go : (o : Option Stamp) → stampOf (keyOf log r) ≡ o → isOf (s .user) o ≡ false
+      go : (o : Option Stamp) → stampOf (r .key) ≡ o → isOf (s .user) o ≡ false
       go none q = refl
-      go (some w) q = ap isEqual (behind-less (spelt (keyOf log r) w q) e)
+      go (some w) q = ap isEqual (behind-less (spelt (r .key) w q) e)
 
-  pub none-left : {ss : List Slot} → All (λ (r : Slot). compareBytes c (keyOf log r) ≡ Less) ss → anyOf (s .user) (view log ss) ≡ false
-  unfolding anyOf view
+  pub none-left : {rs : List Row} → All (λ (r : Row). compareBytes c (r .key) ≡ Less) rs → anyOf (s .user) (pairs rs) ≡ false
+  unfolding anyOf pairs
   none-left all-none = refl
   none-left (all-more {x = r} e a) = rw (behind-other r e) (none-left a)
 

@@ -30,6 +30,7 @@ use Rattle.keycode.proofs.Basics.{nope}
 use Rattle.keycode.proofs.OrderLaws.{same-head}
 use Rattle.keycode.proofs.StringLaws.{Found, scan-found, unescaped-body}
 use Rattle.keycode.proofs.SortLaws.{string-sorts}
+use Rattle.mvcc.specs.version.Seen.{labelBy}
 use Rattle.mvcc.specs.scan.Steps.{Stamp, stampBy, stampOf}
 
 -- ---- decoding, taken back
@@ -113,7 +114,7 @@ pub spelt : (b : List ℕ) (s : Stamp) → stampOf b ≡ some s → Spelt b s
 unfolding stampOf
 spelt b s = go (forget (decodeWhy maxKey b)) refl
   where
-    go : (d : Decoded) → forget (decodeWhy maxKey b) ≡ d → stampBy b d ≡ some s → Spelt b s
+    go : (d : Decoded) → forget (decodeWhy maxKey b) ≡ d → stampBy b (labelBy d) ≡ some s → Spelt b s
     go (Whole NextVersion) e q = nope (cc)
     go (Whole (TxnActive v)) e q = nope (cc)
     go (Whole (TxnActiveSnapshot v)) e q = nope (cc)

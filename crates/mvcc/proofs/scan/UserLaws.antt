@@ -18,8 +18,8 @@ use Rattle.keycode.proofs.key.PrefixKeys.{searched-begins, searched-only}
 use Rattle.bitcask.specs.declared.answers.Bound.{Bound}
 use Rattle.bitcask.specs.declared.answers.Bound.the-variants.{Included, Excluded, Unbounded}
 use Rattle.bitcask.specs.read.Ranks.{admitsLow, admitsHigh, lastBound, admitted}
-use Rattle.mvcc.specs.request.Ranges.{begins}
-use Rattle.mvcc.proofs.request.RangeLaws.{begins-append, begins-split, same-tests}
+use Rattle.bitcask.specs.engine.Prefixes.{begins}
+use Rattle.bitcask.proofs.engine.PrefixLaws.{begins-append, begins-split, same-tests}
 use Rattle.mvcc.specs.scan.Bounds.{lastVersion, lowKind, lowBytes, highKind, highBytes, scanned, prefixed}
 
 -- ---- versions do not decide

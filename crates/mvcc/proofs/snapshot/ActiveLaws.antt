@@ -1,54 +1,59 @@
 -- What the code reads at a begin, for any table: NextVersion, the version of a key, and the walk over the open versions. Assumes nothing.
-use Prim.Native.Nat.{ℕ, zero, suc, _+_, _≤_, _<_}
+use Prim.Native.Nat.{ℕ, suc, _+_, _-_, _≤_, _<_}
 use mathlib.Core.Path.{_≡_, refl, sym, ap, _∙_}
-use mathlib.Core.Bool.{Bool}
+use mathlib.Core.Bool.{Bool, true, false}
 use mathlib.Core.Option.{Option, none, some}
 use mathlib.Core.List.{List, [], _∷_}
-use native.Mathlib.Numerals.{add-one}
 use native.Mathlib.Omega.{arith}
-use lib.ListN.{length, take, drop, drop-of-length-le}
-use lib.Seq.{drop-cons}
-use borrow.Author.Tests.{ne-eqb, eq-eqb}
+use lib.Dec.{leb}
+use lib.ListN.{length, take, drop}
+use borrow.Author.Tests.{ne-eqb, eq-eqb, leb-true, leb-false}
 use Rattle.keycode.specs.Number.{num}
 use Rattle.keycode.specs.key.Keys.{encode, nextVersion}
 use Rattle.keycode.specs.Prefix.{prefixEnd}
-use Rattle.bitcask.specs.declared.keydir.slots.Slot.{Slot}
-use Rattle.bitcask.specs.keydir.Slots.{freeSlot, slotWords, slotHead, slotAt, slotsOf, keyOf, valueOf}
-use Rattle.bitcask.proofs.keydir.SlotLaws.{slots-length, slot-at-is}
-use Rattle.bitcask.specs.declared.answers.Bound.the-variants.{Included}
 use Rattle.keycode.specs.declared.code.Code.{Code}
+use Rattle.keycode.specs.code.Codes.{Codes}
+use Rattle.bitcask.specs.declared.answers.Bound.the-variants.{Included}
+use Rattle.bitcask.specs.declared.engine.mark.Mark.{Mark}
+use Rattle.bitcask.specs.declared.engine.span.Span.{Span}
+use Rattle.bitcask.specs.declared.engine.spot.Spot.{Spot}
+use Rattle.bitcask.specs.declared.engine.spot.Found.{Found}
+use Rattle.bitcask.specs.declared.engine.spot.Found.the-variants.{At, Absent}
+use Rattle.bitcask.specs.engine.Rows.{Row, rows}
+use Rattle.bitcask.specs.engine.Marks.{Held}
+use Rattle.bitcask.specs.engine.Spots.{rank, rowAt, placed, placeBy, lookRow}
+use Rattle.bitcask.specs.engine.Ranges.{rowsFrom, between}
+use Rattle.bitcask.specs.engine.Prefixes.{Prefixes, endBound, endBytes}
+use Rattle.bitcask.proofs.engine.RowLaws.{rows-count}
+use Rattle.bitcask.proofs.engine.LookLaws.{found-row, absent-row}
+use Rattle.bitcask.proofs.engine.RangeLaws.{span-range}
+use Rattle.bitcask.proofs.engine.SpanLaws.{from-next, from-end}
 use Rattle.mvcc.specs.declared.handle.Handle.{Handle}
 use Rattle.mvcc.specs.declared.payload.VersionRead.{VersionRead}
 use Rattle.mvcc.specs.declared.payload.VersionRead.the-variants.{Read, Bad as BadVersion}
-use Rattle.keycode.specs.code.Codes.{Codes}
 use Rattle.mvcc.specs.handle.Handles.{handleOf, withVersion, withAll}
 use Rattle.mvcc.specs.payload.Payloads.{versionIn}
-use Rattle.mvcc.specs.declared.lookup.Slotted.{Slotted}
-use Rattle.mvcc.specs.declared.lookup.Slotted.the-variants as Slots
-use Rattle.mvcc.specs.declared.range.Span.{Span}
-use Rattle.mvcc.specs.request.Looks.{slotOf}
-use Rattle.mvcc.specs.request.Ranges.{Spans, slice, endBound, endBytes, activePrefix, prefixIn}
-use Rattle.mvcc.proofs.request.RangeLaws.{span-range}
+use Rattle.mvcc.specs.request.Ranges.{activePrefix}
 use Rattle.mvcc.specs.declared.snapshot.Seen.{Seen}
 use Rattle.mvcc.specs.declared.snapshot.Tally.the-variants.{Open}
-use Rattle.mvcc.specs.snapshot.Active.{nextBy, nextOf, nextIn, activeIn, consRead, versionsIn, keysIn, activeSlots, badSeen, seenFrom, seenBy}
+use Rattle.mvcc.specs.snapshot.Active.{nextBy, nextOf, nextIn, activeIn, consRead, versionsIn, keysIn, activeRows, badSeen, seenFrom, seenBy}
 
 -- ---- NextVersion
 
 pub next-own : {r : VersionRead} (v : ℕ) → r ≡ Read v → (v ≡ 0 → ⊥) → Read v ≡ nextBy r
 next-own v e n = rw (e, ne-eqb v 0 n)
 
-module _ (log : List ℕ) (ss : List Slot) (c : Code) (w : Codes c (encode nextVersion)) {s : Slotted} (says : s ≡ slotOf log (take (c .len) (c .bytes)) ss) where
-  next-slot : s ≡ slotOf log (encode nextVersion) ss
-  next-slot = says ∙ rw (w .says)
+module _ (rs : List Row) (c : Code) (w : Codes c (encode nextVersion)) (f : Found) (says : placed f rs ≡ placeBy (take (c .len) (c .bytes)) rs) (p : Spot) where
+  next-row : lookRow (take (c .len) (c .bytes)) rs ≡ lookRow (encode nextVersion) rs
+  next-row = ap (λ (k : List ℕ). lookRow k rs) (w .says)
 
-  pub next-missing : s ≡ Slots.None → Read 1 ≡ nextIn log ss
+  pub next-missing : f ≡ Absent p → Read 1 ≡ nextIn rs
   unfolding nextIn nextOf
-  next-missing e = rw (← next-slot, e)
+  next-missing e = rw (← next-row, absent-row (take (c .len) (c .bytes)) rs says p e)
 
-  pub next-found : (x : Slot) → s ≡ Slots.At x → {b : List ℕ} {r q : VersionRead} → b ≡ valueOf log x → r ≡ versionIn b → q ≡ nextBy r → q ≡ nextIn log ss
+  pub next-found : f ≡ At p → {b : List ℕ} {r q : VersionRead} → b ≡ rowAt p rs .value → r ≡ versionIn b → q ≡ nextBy r → q ≡ nextIn rs
   unfolding nextIn nextOf
-  next-found x e eb er eq = rw (← next-slot, e, eq, er, eb)
+  next-found e eb er eq = rw (← next-row, found-row (take (c .len) (c .bytes)) rs says p e, eq, er, eb)
 
 -- ---- the version of a key
 
@@ -61,18 +66,15 @@ module _ (key : List ℕ) where
   unfolding activeIn
   active-own h es ev = rw (eq-eqb (length key) 9 h, ev, es)
 
-pub active-at : (log : List ℕ) (s x : Slot) {b : List ℕ} {r : VersionRead} → s ≡ x → b ≡ keyOf log s → r ≡ activeIn b → r ≡ activeIn (keyOf log x)
-active-at log s x es eb er = rw (er, eb, es)
-
 -- ---- the walk
 
--- the versions of the slots before the i-th are in the handle
-pub record Gathering (log t : List ℕ) (from to : ℕ) (start handle : Handle) (n i : ℕ) : Type 0 where
-  pub near : n ≤ i
-  pub so : seenFrom n handle (versionsIn (keysIn log (drop i (slotsOf to t)))) ≡ seenFrom 0 start (versionsIn (keysIn log (drop from (slotsOf to t))))
+-- the versions of the rows before a spot are in the handle
+pub record Gathering (rs : List Row) (from to : Spot) (start handle : Handle) (n : ℕ) (at : Spot) : Type 0 where
+  pub near : n ≤ rank at rs
+  pub so : seenFrom n handle (versionsIn (keysIn (between at to rs))) ≡ seenFrom 0 start (versionsIn (keysIn (between from to rs)))
 
-pub gather-start : (log t : List ℕ) (from to : ℕ) (start : Handle) → Gathering log t from to start start 0 from
-gather-start log t from to start = record { near = omega arith; so = refl }
+pub gather-start : (rs : List Row) (from to : Spot) (start : Handle) → Gathering rs from to start start 0 from
+gather-start rs from to start = record { near = omega arith; so = refl }
 
 seen-bad : (n : ℕ) (h : Handle) (o : Option (List ℕ)) → seenFrom n h (consRead BadVersion o) ≡ badSeen
 unfolding seenFrom
@@ -85,50 +87,78 @@ seen-more n h v (some vs) =
     let e : n + suc (length vs) ≡ n + 1 + length vs = omega arith in
     λ j. record { tally = Open (e j); handle = withAll (withVersion h v) vs }
 
-module _ {log t : List ℕ} {from to : ℕ} {start handle : Handle} {n i : ℕ} (w : Gathering log t from to start handle n i) where
-  pub gather-end : to ≤ i → record { tally = Open n; handle = handle } ≡ seenFrom 0 start (versionsIn (keysIn log (drop from (slotsOf to t))))
+-- the rows of a span, by its first
+span-over : (rs : List Row) (at to : Spot) → rank to rs ≤ rank at rs → rank to rs ≤ length rs → between at to rs ≡ []
+unfolding between
+span-over rs at to h k = from-end rs (rank at rs) (rank to rs) h k
+
+span-next : (rs : List Row) (at to next : Spot) → rank at rs < rank to rs → rank to rs ≤ length rs → suc (rank at rs) ≡ rank next rs → between at to rs ≡ rowAt at rs ∷ between next to rs
+unfolding between rowAt
+span-next rs at to next h k e = from-next rs (rank at rs) (rank to rs) h k ∙ ap (λ (i : ℕ). rowAt at rs ∷ rowsFrom i (rank to rs) rs) e
+
+span-first : (rs : List Row) (at to : Spot) → rank at rs < rank to rs → rank to rs ≤ length rs → between at to rs ≡ rowAt at rs ∷ rowsFrom (suc (rank at rs)) (rank to rs) rs
+unfolding between rowAt
+span-first rs at to h k = from-next rs (rank at rs) (rank to rs) h k
+
+-- whether it is over is told by ranks
+module _ {rs : List Row} {from to : Spot} {start handle : Handle} {n : ℕ} {at : Spot} (w : Gathering rs from to start handle n at) (k : rank to rs ≤ length rs)
+    {b : Bool} (eb : b ≡ leb (rank to rs) (rank at rs)) where
+  pub gather-end : b ≡ true → record { tally = Open n; handle = handle } ≡ seenFrom 0 start (versionsIn (keysIn (between from to rs)))
   unfolding seenFrom versionsIn keysIn withAll
-  gather-end h =
-      let l = slots-length to t in
-      let d : drop i (slotsOf to t) ≡ [] = drop-of-length-le (slotsOf to t) {i = i} (omega arith) in
+  gather-end q =
+      let h : rank to rs ≤ rank at rs = leb-true (rank to rs) (rank at rs) (sym eb ∙ q) in
+      let d : between at to rs ≡ [] = span-over rs at to h k in
       let e : n ≡ n + 0 = omega arith in
-      (λ j. record { tally = Open (e j); handle = handle })
-      ∙ ap (λ (ss : List Slot). seenFrom n handle (versionsIn (keysIn log ss))) (sym d) ∙ w .so
+      (λ j. record { tally = Open (e j); handle = handle }) ∙ ap (λ (l : List Row). seenFrom n handle (versionsIn (keysIn l))) (sym d) ∙ w .so
 
-  module _ (here : i < to) {r : VersionRead} (read : r ≡ activeIn (keyOf log (slotAt t i))) where
-    gather-next : seenFrom n handle (consRead r (versionsIn (keysIn log (drop (i + 1) (slotsOf to t))))) ≡ seenFrom 0 start (versionsIn (keysIn log (drop from (slotsOf to t))))
-    unfolding versionsIn keysIn
-    gather-next =
-        let l = slots-length to t in
-        let d : drop i (slotsOf to t) ≡ slotAt t i ∷ drop (i + 1) (slotsOf to t) = rw (add-one, slot-at-is to t i here) (drop-cons (slotsOf to t) i freeSlot (omega arith)) in
-        ap (λ (x : VersionRead). seenFrom n handle (consRead x (versionsIn (keysIn log (drop (i + 1) (slotsOf to t)))))) read
-        ∙ ap (λ (ss : List Slot). seenFrom n handle (versionsIn (keysIn log ss))) (sym d) ∙ w .so
+  module _ (q : b ≡ false) where
+    before : rank at rs < rank to rs
+    before = leb-false (rank to rs) (rank at rs) (sym eb ∙ q)
 
-    pub gather-bad : {q : Seen} → r ≡ BadVersion → q ≡ badSeen → q ≡ seenFrom 0 start (versionsIn (keysIn log (drop from (slotsOf to t))))
-    gather-bad e f = f ∙ sym (seen-bad n handle (versionsIn (keysIn log (drop (i + 1) (slotsOf to t))))) ∙ rw e at gather-next
+    pub gather-stands : rank at rs < length rs
+    gather-stands = omega (arith, before)
 
-    pub gather-more : (v : ℕ) {h : Handle} → r ≡ Read v → h ≡ withVersion handle v → Gathering log t from to start h (n + 1) (i + 1)
-    gather-more v e f = record {
-      near = omega (arith, w .near);
-      so = rw f (sym (seen-more n handle v (versionsIn (keysIn log (drop (i + 1) (slotsOf to t))))) ∙ rw e at gather-next);
-    }
+    module _ {key : List ℕ} (ek : key ≡ rowAt at rs .key) {r : VersionRead} (read : r ≡ activeIn key) where
+      gather-on : (next : Spot) → rank next rs ≡ rank at rs + 1
+          → seenFrom n handle (consRead r (versionsIn (keysIn (between next to rs)))) ≡ seenFrom 0 start (versionsIn (keysIn (between from to rs)))
+      unfolding versionsIn keysIn
+      gather-on next en =
+          let z : suc (rank at rs) ≡ rank next rs = omega arith in
+          let d : between at to rs ≡ rowAt at rs ∷ between next to rs = span-next rs at to next before k z in
+          ap (λ (x : VersionRead). seenFrom n handle (consRead x (versionsIn (keysIn (between next to rs))))) (read ∙ ap activeIn ek)
+          ∙ ap (λ (l : List Row). seenFrom n handle (versionsIn (keysIn l))) (sym d) ∙ w .so
+
+      pub gather-bad : {y : Seen} → r ≡ BadVersion → y ≡ badSeen → y ≡ seenFrom 0 start (versionsIn (keysIn (between from to rs)))
+      unfolding versionsIn keysIn
+      gather-bad {y} e f =
+          let d : between at to rs ≡ rowAt at rs ∷ rowsFrom (suc (rank at rs)) (rank to rs) rs = span-first rs at to before k in
+          f ∙ sym (seen-bad n handle (versionsIn (keysIn (rowsFrom (suc (rank at rs)) (rank to rs) rs))))
+          ∙ ap (λ (x : VersionRead). seenFrom n handle (consRead x (versionsIn (keysIn (rowsFrom (suc (rank at rs)) (rank to rs) rs))))) (sym e ∙ read ∙ ap activeIn ek)
+          ∙ ap (λ (l : List Row). seenFrom n handle (versionsIn (keysIn l))) (sym d) ∙ w .so
+
+      pub gather-more : (v : ℕ) {h : Handle} → r ≡ Read v → h ≡ withVersion handle v → (next : Spot) → rank next rs ≡ rank at rs + 1 → Gathering rs from to start h (n + 1) next
+      gather-more v e f next en = record {
+        near = omega (arith, w .near);
+        so = rw f (sym (seen-more n handle v (versionsIn (keysIn (between next to rs)))) ∙ rw e at (gather-on next en));
+      }
+
+    -- the walk ends
+    pub gather-less : (next : Spot) → rank next rs ≡ rank at rs + 1 → rank to rs - rank next rs < rank to rs - rank at rs
+    gather-less next en = omega (arith, before)
+
+-- the count of a walk over a store's rows fits
+pub gather-fits : (log t : List ℕ) (m : Mark) → Held log t m → (n : ℕ) (at : Spot) → n ≤ rank at (rows log t m) → rank at (rows log t m) < length (rows log t m) → n + 1 ≤ length t
+gather-fits log t m h n at a b = omega (arith, h .room, rows-count log t m)
 
 -- ---- all of the tag
 
-slots-take : (k n : ℕ) (t : List ℕ) → k ≤ n → take k (slotsOf n t) ≡ slotsOf k t
-unfolding slotsOf
-slots-take zero n t h = refl
-slots-take (suc k) zero t h = absurd (omega arith)
-slots-take (suc k) (suc n) t h = ap (λ (ss : List Slot). slotHead t ∷ ss) (slots-take k n (drop slotWords t) (omega arith))
+pub active-rows : (rs : List Row) (r : Span) → Prefixes rs activePrefix r → between (r .from) (r .to) rs ≡ activeRows rs
+unfolding activeRows
+active-rows rs r w = span-range Included activePrefix (endBound (prefixEnd activePrefix)) (endBytes activePrefix (prefixEnd activePrefix)) w
 
-pub actives-seen : (log t : List ℕ) (n : ℕ) (start : Handle) {r : Span} {q : Seen}
-    → Spans log (slotsOf n t) n Included activePrefix (endBound (prefixEnd activePrefix)) (endBytes activePrefix (prefixEnd activePrefix)) r
-    → q ≡ seenFrom 0 start (versionsIn (keysIn log (drop (r .from) (slotsOf (r .to) t)))) → q ≡ seenFrom 0 start (versionsIn (keysIn log (activeSlots log (slotsOf n t))))
-unfolding activeSlots prefixIn slice
-actives-seen log t n start {r} w e =
-    e ∙ ap (λ (ss : List Slot). seenFrom 0 start (versionsIn (keysIn log (drop (r .from) ss)))) (sym (slots-take (r .to) n t (w .within .1)))
-    ∙ ap (λ (ss : List Slot). seenFrom 0 start (versionsIn (keysIn log ss)))
-    (span-range Included activePrefix (endBound (prefixEnd activePrefix)) (endBytes activePrefix (prefixEnd activePrefix)) log w)
+pub actives-seen : (rs : List Row) (start : Handle) (r : Span) {q : Seen} → Prefixes rs activePrefix r
+    → q ≡ seenFrom 0 start (versionsIn (keysIn (between (r .from) (r .to) rs))) → q ≡ seenFrom 0 start (versionsIn (keysIn (activeRows rs)))
+actives-seen rs start r w e = e ∙ ap (λ (l : List Row). seenFrom 0 start (versionsIn (keysIn l))) (active-rows rs r w)
 
 pub round-bad : (ro : Bool) {v r : VersionRead} (o : Option (List ℕ)) {q : Seen} → r ≡ v → r ≡ BadVersion → q ≡ badSeen → q ≡ seenBy ro v o
 round-bad ro o er e f = rw (← er, e, f)

@@ -1,39 +1,36 @@
--- Begin: its answer by what the code has seen and judged, and its promise. Assumes nothing.
-use Prim.Native.Nat.{ℕ, zero, suc, _+_, _-_, _*_, _/_, _^_, _≤_, _<_}
-use mathlib.Core.Path.{_≡_, refl, sym, ap, _∙_}
+-- Begin: its answer by what the code has seen and appended, and its promise. Assumes nothing.
+use Prim.Native.Nat.{ℕ, zero, suc, _+_, _-_, _*_, _^_, _≤_, _<_}
+use mathlib.Core.Path.{_≡_, refl, sym, ap, _∙_, subst}
 use mathlib.Core.Bool.{Bool, true, false}
+use mathlib.Core.Logic.{_⊎_, inl, inr}
 use mathlib.Core.Option.{Option, none, some}
 use mathlib.Core.List.{List, [], _∷_}
 use native.Mathlib.Omega.{arith}
-use lib.Dec.{leb, ltb, eqb}
-use lib.ListN.{length, getD, set}
+use lib.Dec.{ltb, eqb}
+use lib.ListN.{length, set}
 use borrow.Author.Tests.{le-leb, lt-leb, eq-eqb, ne-eqb}
 use Rattle.keycode.specs.Tests.{pick}
 use Rattle.keycode.specs.Limits.{maxOpen}
 use Rattle.keycode.specs.Refusals.{numberOf}
 use Rattle.keycode.specs.Buffer.{put}
 use Rattle.keycode.specs.declared.refusal.Refusal.{Refusal}
-use Rattle.keycode.specs.declared.refusal.Refusal.the-variants.{LogFull, TableFull, TooManyOpen, VersionsSpent, BadStore, BadRequest}
+use Rattle.keycode.specs.declared.refusal.Refusal.the-variants.{TooManyOpen, VersionsSpent, BadStore, BadRequest}
 use Rattle.keycode.proofs.Basics.{nope}
 use Rattle.keycode.proofs.BufferLaws.{refused-stays}
 use Rattle.keycode.proofs.NumberLaws.{Bytes}
-use Rattle.keycode.specs.key.Keys.{encode, txnActiveSnapshot}
-use Rattle.bitcask.specs.entry.Entry.{Entry, set as setEntry}
-use Rattle.bitcask.specs.keydir.Slots.{slotWords, slotsOf}
-use Rattle.bitcask.specs.keydir.Place.{countOf, all-none, all-more}
-use Rattle.bitcask.proofs.keydir.CountLaws.{count-within}
+use Rattle.bitcask.specs.entry.Entry.{Entry}
 use Rattle.bitcask.specs.declared.request.Used.{Used}
 use Rattle.bitcask.specs.declared.request.Changed.{Changed}
 use Rattle.bitcask.specs.declared.request.Changed.the-variants as Change
-use Rattle.bitcask.specs.recovery.Map.{Pair}
 use Rattle.bitcask.specs.recovery.Recover.{mapOf}
 use Rattle.bitcask.specs.recovery.Agree.{fit, Agrees}
-use Rattle.bitcask.proofs.recovery.AgreeLaws.{fit-sound}
-use Rattle.bitcask.specs.declared.append.Room.{Room}
-use Rattle.bitcask.specs.declared.append.Room.the-variants.{Left, Full}
-use Rattle.bitcask.specs.declared.append.Check.{Check}
-use Rattle.bitcask.specs.declared.append.Check.the-variants.{Fine, Refused}
-use Rattle.bitcask.specs.change.Append.{judge, sizeAll, bytesAll, afterAll, appendAnswer}
+use Rattle.bitcask.specs.change.Append.{bytesAll, appendAnswer}
+use Rattle.bitcask.specs.declared.engine.mark.Mark.{Mark}
+use Rattle.bitcask.specs.declared.engine.mark.Entered.{Entered}
+use Rattle.bitcask.specs.declared.engine.mark.Entered.the-variants as Entering
+use Rattle.bitcask.specs.engine.Rows.{rows}
+use Rattle.bitcask.specs.engine.Marks.{markOf, enteredBy, Held}
+use Rattle.bitcask.proofs.engine.SpotLaws.{in-fits, in-held, in-agreeing, refused-fits}
 use Rattle.mvcc.specs.declared.handle.Handle.{Handle}
 use Rattle.mvcc.specs.declared.payload.VersionRead.{VersionRead}
 use Rattle.mvcc.specs.declared.payload.VersionRead.the-variants.{Read, Bad as BadVersion}
@@ -41,40 +38,26 @@ use Rattle.mvcc.specs.handle.Handles.{setOf, handleOf, blankHandle, with
 use Rattle.mvcc.specs.payload.Payloads.{setBytes}
 use Rattle.mvcc.proofs.handle.HandleLaws.{made-all, made-set}
 use Rattle.mvcc.proofs.payload.PayloadLaws.{set-long}
-use Rattle.mvcc.specs.request.Lists.{appendedAll, roomAll, freshAll, Sets, sets-none, sets-more, Apart, apart-none, apart-more, checkOf, judgeAll}
-use Rattle.mvcc.proofs.request.ListLaws.{all-log, all-words, append-all, Appends}
-use Rattle.mvcc.proofs.request.FitLaws.{sets-fit, sets-judged, answer-fine}
+use Rattle.mvcc.specs.request.Lists.{Sets, sets-none, sets-more}
+use Rattle.mvcc.proofs.request.CheckLaws.{not-done}
+use Rattle.mvcc.specs.append.Appends.{Appends}
+use Rattle.mvcc.proofs.append.GrowLaws.{grows}
 use Rattle.mvcc.specs.declared.snapshot.Seen.{Seen}
 use Rattle.mvcc.specs.declared.snapshot.Tally.the-variants.{Open, Bad}
 use Rattle.mvcc.specs.declared.begun.Begun.{Begun}
-use Rattle.mvcc.specs.snapshot.Active.{nextIn, versionsIn, keysIn, activeSlots, seenFrom, seenBy, nextAt, activeAt}
-use Rattle.mvcc.specs.request.Checks.{onFine}
-use Rattle.mvcc.specs.start.Plan.{nextEntry, ownEntry, snapshotBy, planBy, beginPlan, planOf, startedBy, Starts}
+use Rattle.mvcc.specs.snapshot.Active.{nextIn, versionsIn, keysIn, activeRows, seenFrom, seenBy, nextAt, activeAt}
+use Rattle.mvcc.specs.start.Plan.{snapshotBy, planBy, beginPlan, planOf}
 use Rattle.mvcc.specs.request.Given.{refusedBy}
 use Rattle.mvcc.specs.start.Begins.{begunBy, beginBy}
 use Rattle.mvcc.specs.start.Promises.{Begins}
 use Rattle.mvcc.proofs.snapshot.AgreedLaws.{next-agrees, active-agrees}
-use Rattle.mvcc.proofs.start.PlanLaws.{judged-room}
 
--- ---- the plan sets keys that differ
-
-apart-tags : {a b : List ℕ} → getD a 0 0 < getD b 0 0 → a ≡ b → ⊥
-apart-tags h e = let z = ap (λ (l : List ℕ). getD l 0 0) e in omega arith
-
-tags-apart : {a b : List ℕ} → getD b 0 0 < getD a 0 0 → a ≡ b → ⊥
-tags-apart h e = let z = ap (λ (l : List ℕ). getD l 0 0) e in omega arith
+-- ---- the plan
 
 pub plan-sets : (k v : ℕ) (p : List ℕ) → Sets (planBy k v p)
 unfolding planBy snapshotBy
 plan-sets zero v p = sets-more (sets-more sets-none)
 plan-sets (suc k) v p = sets-more (sets-more (sets-more sets-none))
-
-plan-apart : (k v : ℕ) (p : List ℕ) → Apart (planBy k v p)
-unfolding planBy snapshotBy
-plan-apart zero v p = apart-more {e = nextEntry v} (all-more {x = ownEntry v} (apart-tags (omega arith)) all-none) (apart-more {e = ownEntry v} all-none apart-none)
-plan-apart (suc k) v p =
-    apart-more {e = nextEntry v} (all-more {x = setEntry (encode (txnActiveSnapshot v)) p} (apart-tags (omega arith)) (all-more {x = ownEntry v} (apart-tags (omega arith)) all-none))
-    (apart-more {e = setEntry (encode (txnActiveSnapshot v)) p} (all-more {x = ownEntry v} (tags-apart (omega arith)) all-none) (apart-more {e = ownEntry v} all-none apart-none))
 
 -- ---- what was seen where nothing is bad
 
@@ -131,171 +114,127 @@ module _ {nv : VersionRead} {o : Option (List ℕ)} {k : ℕ} {h : Handle} (w : 
   pub seen-few : k < maxOpen → length (setBytes (setOf h)) ≤ 8 * maxOpen
   seen-few l = let e = ap length (seen-set l) in omega (arith, set-long (setOf h), w .many)
 
--- ---- the judgement's refusals
-
-judge-number : (room : Room) (n m : ℕ) (y : Refusal) → judge room n m ≡ Refused y → (eqb (numberOf y) 13 ≡ false) × (numberOf y ≡ 0 → ⊥)
-judge-number Full n m y e = let q : y ≡ LogFull = cc in rw q (refl, λ z. omega arith)
-judge-number (Left r) n m y e = go (leb n m) e
-  where
-    go : (b : Bool) → pick b Fine (Refused TableFull) ≡ Refused y → (eqb (numberOf y) 13 ≡ false) × (numberOf y ≡ 0 → ⊥)
-    go true f = nope (cc)
-    go false f = let q : y ≡ TableFull = cc in rw q (refl, λ z. omega arith)
-
-check-refused : (a : Changed) (y : Refusal) → checkOf a ≡ Refused y → a ≡ Change.Refused y
-check-refused (Change.Done u) y e = nope (cc)
-check-refused (Change.Refused r) y e = let q : r ≡ y = cc in ap Change.Refused q
-
--- what was seen, for any table
-abbrev nextSeen : List ℕ → ℕ → List ℕ → VersionRead
-nextSeen log n t = nextIn log (slotsOf n t)
-
-abbrev openSeen : List ℕ → ℕ → List ℕ → Option (List ℕ)
-openSeen log n t = versionsIn (keysIn log (activeSlots log (slotsOf n t)))
-
--- ---- the judgement under agreement
-
-module _ (log : List ℕ) (used : ℕ) (t : List ℕ) (v : ℕ) (vs : List ℕ) (g : Agrees log used t) where
-  judged-is : judgeAll log used t (countOf t) (beginPlan v vs) ≡ checkOf (appendAnswer log used (length t) (beginPlan v vs))
-  unfolding judgeAll
-  judged-is = sets-judged log used t (beginPlan v vs) g (countOf t) refl (plan-sets (length vs) v (setBytes vs)) (plan-apart (length vs) v (setBytes vs))
-
-  module _ (within : used ≤ length log) (e : judgeAll log used t (countOf t) (beginPlan v vs) ≡ Fine) where
-    fine-bounds : (used + sizeAll (beginPlan v vs) ≤ length log) × (length (afterAll (beginPlan v vs) (mapOf log used)) ≤ length t / slotWords)
-    fine-bounds = answer-fine log used (length t) (beginPlan v vs) (sym judged-is ∙ e)
-
-    fine-answer : Change.Done (record { len = used + sizeAll (beginPlan v vs) }) ≡ appendAnswer log used (length t) (beginPlan v vs)
-    unfolding appendAnswer
-    fine-answer =
-        let w = fine-bounds in
-        rw (le-leb (used + sizeAll (beginPlan v vs)) (length log) (w .0), le-leb (length (afterAll (beginPlan v vs) (mapOf log used))) (length t / slotWords) (w .1))
-
-    fine-appends : Appends log used t (beginPlan v vs) (appendedAll (record { log = log; used = used; table = t; count = countOf t }) (beginPlan v vs))
-    fine-appends =
-        let w = fine-bounds in
-        append-all log used t (beginPlan v vs) g (w .0) (sets-fit (plan-sets (length vs) v (setBytes vs)) (mapOf log used) (length t / slotWords) (w .1)) (countOf t) refl
+-- ---- the promise
 
 -- the plan of the handle that is given
 plan-made : (v : ℕ) (vs : List ℕ) → length vs ≤ maxOpen → planOf (handleOf v false vs) ≡ beginPlan v vs
 plan-made v vs h = let e = made-set v false vs h in λ j. planBy (length (e j)) (made-version v vs j) (setBytes (e j))
 
-again-at : (used : ℕ) {ps es : List Entry} {l x : List ℕ} {u : ℕ} → ps ≡ es → u ≡ used + sizeAll es → Agrees l u x → Agrees l (used + sizeAll ps) x
-again-at used p q w = rw (p, ← q) w
+-- what a judgement refuses with is not 13
+judged-number : (n : ℕ) → (n ≡ 0) ⊎ ((n ≡ 7) ⊎ (n ≡ 8)) → eqb n 13 ≡ false
+judged-number n (inl e) = rw e
+judged-number n (inr (inl e)) = rw e
+judged-number n (inr (inr e)) = rw e
 
-map-at : (used : ℕ) (l : List ℕ) (m : List Pair) {ps es : List Entry} {u : ℕ} → ps ≡ es → u ≡ used + sizeAll es → mapOf l u ≡ afterAll es m → mapOf l (used + sizeAll ps) ≡ afterAll ps m
-map-at used l m p q w = rw (p, ← q) w
-
-abbrev lenOf : Changed → ℕ
-lenOf (Change.Done u) = u .len
-lenOf (Change.Refused r) = 0
-
-ends-at : (used n : ℕ) {ps es : List Entry} → ps ≡ es → used + sizeAll es ≤ n → (u : Used) → Change.Done (record { len = used + sizeAll es }) ≡ Change.Done u
-    → (u .len ≡ used + sizeAll ps) × (used + sizeAll ps ≤ n)
-ends-at used n p h u e = rw p (sym (ap lenOf e), h)
-
--- ---- the promise
-
-module _ (log : List ℕ) (used : ℕ) (t : List ℕ) where
-  pub begin-sizes : {r : Begun} → fit (length log) used (length t) ≡ false → r ≡ refusedBy BadRequest → Begins log used t r log t
-  begin-sizes f e =
-      rw e
+module _ (log : List ℕ) (used : Used) (t : List ℕ) {a : Entered} (ea : a ≡ enteredBy log used t) where
+  pub begin-sizes : {r : Begun} (x : Refusal) → a ≡ Entering.Refused x → r ≡ refusedBy x → Begins log (used .len) t r log t
+  begin-sizes {r} x e q =
+      let w = refused-fits log used t a ea x e in
+      let z : r ≡ refusedBy BadRequest = q ∙ ap refusedBy (w .1) in
+      rw z
       (record {
         bytes = refl;
         words = refl;
         long = refl;
-        ends = λ u z. nope (cc);
+        ends = λ u y. nope (cc);
         blank = refl;
-        bad = rw f;
-        answer = λ g. nope (cc (g .sound, f));
-        again = λ g z. nope (cc);
-        map = λ g z. nope (cc);
+        bad = rw (w .0);
+        answer = λ g. nope (cc (g .sound, w .0));
+        again = λ g y. nope (cc);
+        map = λ g y. nope (cc);
       })
 
-  module _ (f : fit (length log) used (length t) ≡ true) (b : Bytes log) {n : ℕ} (en : n ≡ countOf t) where
-    in-map : Agrees log used t → beginBy log used (length t) (nextSeen log n t) (openSeen log n t) ≡ beginBy log used (length t) (nextAt (mapOf log used)) (activeAt (mapOf log used))
-    in-map g = rw (en, next-agrees log used t g, active-agrees log used t g b)
+  module _ (m : Mark) (e : a ≡ Entering.In m) (b : Bytes log) where
+    -- what was seen, for any table
+    abbrev nextSeen : VersionRead
+    nextSeen = nextIn (rows log t m)
 
-    refuses : (x : Refusal) {r : Begun} → eqb (numberOf x) 13 ≡ false → (numberOf x ≡ 0 → ⊥) → r ≡ refusedBy x
-        → (Agrees log used t → refusedBy x ≡ beginBy log used (length t) (nextSeen log n t) (openSeen log n t)) → Begins log used t r log t
-    refuses x h nz e a =
-        rw e
+    abbrev openSeen : Option (List ℕ)
+    openSeen = versionsIn (keysIn (activeRows (rows log t m)))
+
+    fits : fit (length log) (used .len) (length t) ≡ true
+    fits = in-fits log used t a ea m e .0
+
+    pub begin-held : (Held log t m) × (m ≡ markOf (m .used) t)
+    begin-held = let z = in-fits log used t a ea m e .1 in (in-held log used t a ea m e, z ∙ ap (λ (k : Mark). markOf (k .used) t) (sym z))
+
+    in-map : Agrees log (used .len) t → beginBy log (used .len) (length t) nextSeen openSeen ≡ beginBy log (used .len) (length t) (nextAt (mapOf log (used .len))) (activeAt (mapOf log (used .len)))
+    in-map g =
+        let h = in-agreeing log used t a ea m e g in
+        (λ j. beginBy log (used .len) (length t) (next-agrees log t m h j) (active-agrees log t m h b j))
+        ∙ ap (λ (k : Mark). beginBy log (used .len) (length t) (nextAt (mapOf log (k .used .len))) (activeAt (mapOf log (k .used .len)))) (in-fits log used t a ea m e .1)
+
+    refuses : (x : Refusal) {r : Begun} → eqb (numberOf x) 13 ≡ false → r ≡ refusedBy x
+        → (Agrees log (used .len) t → refusedBy x ≡ beginBy log (used .len) (length t) nextSeen openSeen) → Begins log (used .len) t r log t
+    refuses x h q y =
+        rw q
         (record {
-          bytes = refused-stays x (put log used (bytesAll (planOf blankHandle))) log;
+          bytes = refused-stays x (put log (used .len) (bytesAll (planOf blankHandle))) log;
           words = refused-stays x t t;
           long = refl;
           ends = λ u z. nope (cc);
           blank = refused-stays x blankHandle blankHandle;
-          bad = h ∙ rw f;
-          answer = λ g. a g ∙ in-map g;
-          again = λ g z. absurd (nz z);
-          map = λ g z. absurd (nz z);
+          bad = h ∙ rw fits;
+          answer = λ g. y g ∙ in-map g;
+          again = λ g z. absurd (not-done x z);
+          map = λ g z. absurd (not-done x z);
         })
 
-    module _ {s : Seen} (seen : s ≡ seenBy false (nextSeen log n t) (openSeen log n t)) where
-      pub begin-bad : {r : Begun} → s .tally ≡ Bad → r ≡ refusedBy BadStore → Begins log used t r log t
-      begin-bad e q = refuses BadStore refl (λ z. omega arith) q (λ g. bad-answer log used (length t) (nextSeen log n t) (openSeen log n t) seen e)
+    -- the answer of the append, by what the plan and the handle are
+    module _ (v : ℕ) (vs : List ℕ) (few : length vs ≤ maxOpen)
+        (judged : beginBy log (used .len) (length t) nextSeen openSeen ≡ begunBy (appendAnswer log (used .len) (length t) (beginPlan v vs)) (handleOf v false vs)) {log′ t′ : List ℕ} where
+      by-answer : (c : Changed) → Appends log t (markOf used t) (beginPlan v vs) c log′ t′ → Begins log (used .len) t (begunBy c (handleOf v false vs)) log′ t′
+      by-answer (Change.Refused y) w =
+          let el : log′ ≡ log = w .leaves .bytes ∙ sym (refused-stays y (put log (used .len) (bytesAll (beginPlan v vs))) log) in
+          let et : t′ ≡ t = w .leaves .words ∙ sym (refused-stays y t′ t) in
+          let z = refuses y (judged-number (numberOf y) (w .numbers)) refl (λ g. ap (λ (c : Changed). begunBy c (handleOf v false vs)) (w .answer g) ∙ sym judged) in
+          subst (λ (l : List ℕ). Begins log (used .len) t (refusedBy y) l t′) (sym el) (subst (λ (x : List ℕ). Begins log (used .len) t (refusedBy y) log x) (sym et) z)
+      by-answer (Change.Done u) w =
+          let q : planOf (handleOf v false vs) ≡ beginPlan v vs = plan-made v vs few in
+          record {
+            bytes = w .leaves .bytes ∙ ap (λ (es : List Entry). put log (used .len) (bytesAll es)) (sym q);
+            words = refl;
+            long = w .leaves .long;
+            ends = λ x z. rw q (w .leaves .ends x z);
+            blank = refl;
+            bad = rw fits;
+            answer = λ g. ap (λ (c : Changed). begunBy c (handleOf v false vs)) (w .answer g) ∙ sym judged ∙ in-map g;
+            again = λ g z. rw q (w .leaves .again g refl);
+            map = λ g z. rw q (grows g (plan-sets (length vs) v (setBytes vs)) (w .leaves) refl (w .answer g) .map);
+          }
 
-      module _ (k : ℕ) (e : s .tally ≡ Open k) where
-        opens : SeenOpen (nextSeen log n t) (openSeen log n t) k (s .handle)
-        opens = seen-open (nextSeen log n t) (openSeen log n t) k seen e
+    module _ {s : Seen} (seen : s ≡ seenBy false (nextIn (rows log t m)) (versionsIn (keysIn (activeRows (rows log t m))))) where
+      pub begin-bad : {r : Begun} → s .tally ≡ Bad → r ≡ refusedBy BadStore → Begins log (used .len) t r log t
+      begin-bad y q = refuses BadStore refl q (λ g. bad-answer log (used .len) (length t) nextSeen openSeen seen y)
+
+      module _ (k : ℕ) (y : s .tally ≡ Open k) where
+        opens : SeenOpen nextSeen openSeen k (s .handle)
+        opens = seen-open nextSeen openSeen k seen y
 
         pub begin-room : k < maxOpen → length (setBytes (setOf (s .handle))) ≤ 8 * maxOpen
         begin-room h = seen-few opens h
 
-        pub begin-spent : {r : Begun} → s .handle .version ≡ 2 ^ 64 - 1 → r ≡ refusedBy VersionsSpent → Begins log used t r log t
+        pub begin-spent : {r : Begun} → s .handle .version ≡ 2 ^ 64 - 1 → r ≡ refusedBy VersionsSpent → Begins log (used .len) t r log t
         begin-spent h q =
-            refuses VersionsSpent refl (λ z. omega arith) q
-            (λ g. rw (opens .version, opens .all, eq-eqb (opens .v) (2 ^ 64 - 1) (sym (seen-version opens) ∙ h)))
+            refuses VersionsSpent refl q (λ g. rw (opens .version, opens .all, eq-eqb (opens .v) (2 ^ 64 - 1) (sym (seen-version opens) ∙ h)))
 
         module _ (own : s .handle .version ≡ 2 ^ 64 - 1 → ⊥) where
           unspent : eqb (opens .v) (2 ^ 64 - 1) ≡ false
           unspent = ne-eqb (opens .v) (2 ^ 64 - 1) (λ z. own (seen-version opens ∙ z))
 
-          pub begin-many : {r : Begun} → maxOpen ≤ k → r ≡ refusedBy TooManyOpen → Begins log used t r log t
+          pub begin-many : {r : Begun} → maxOpen ≤ k → r ≡ refusedBy TooManyOpen → Begins log (used .len) t r log t
           begin-many h q =
-              refuses TooManyOpen refl (λ z. omega arith) q
-              (λ g. rw (opens .version, opens .all, unspent, le-leb maxOpen (length (opens .vs)) (omega (arith, opens .many))))
+              refuses TooManyOpen refl q (λ g. rw (opens .version, opens .all, unspent, le-leb maxOpen (length (opens .vs)) (omega (arith, opens .many))))
 
-          module _ (few : k < maxOpen) where
-            judged-answer : beginBy log used (length t) (nextSeen log n t) (openSeen log n t) ≡ begunBy (appendAnswer log used (length t) (beginPlan (opens .v) (opens .vs))) (handleOf (opens .v) false (opens .vs))
-            judged-answer = rw (opens .version, opens .all, unspent, lt-leb maxOpen (length (opens .vs)) (omega (arith, opens .many)))
-
-            -- by what the plan and the handle are
-            by-plan : (v : ℕ) (vs : List ℕ) {r : Begun} {log′ t′ : List ℕ} → length vs ≤ maxOpen
-                → beginBy log used (length t) (nextSeen log n t) (openSeen log n t) ≡ begunBy (appendAnswer log used (length t) (beginPlan v vs)) (handleOf v false vs)
-                → (x : Check) → judgeAll log used t (countOf t) (beginPlan v vs) ≡ x
-                → r ≡ startedBy x (used + sizeAll (beginPlan v vs)) (handleOf v false vs)
-                → log′ ≡ onFine x (appendedAll (record { log = log; used = used; table = t; count = countOf t }) (beginPlan v vs) .log) log
-                → t′ ≡ onFine x (appendedAll (record { log = log; used = used; table = t; count = countOf t }) (beginPlan v vs) .table) t → Begins log used t r log′ t′
-            by-plan v vs l a (Refused y) j er el et =
-                let w = refused-number y j in
-                rw (el, et) (refuses y (w .0) (w .1) er (λ g. ap (λ (c : Changed). begunBy c (handleOf v false vs)) (sym (check-refused (appendAnswer log used (length t) (beginPlan v vs)) y (sym (judged-is log used t v vs g) ∙ j))) ∙ sym a))
-              where
-                refused-number : (y : Refusal) → judgeAll log used t (countOf t) (beginPlan v vs) ≡ Refused y → (eqb (numberOf y) 13 ≡ false) × (numberOf y ≡ 0 → ⊥)
-                refused-number y j = unfold judgeAll in judge-number (roomAll (Left (length log - used)) (beginPlan v vs)) (freshAll log (beginPlan v vs) (slotsOf (countOf t) t)) (length t / slotWords - countOf t) y j
-            by-plan v vs l a Fine j er el et =
-                let within : used ≤ length log = fit-sound (length log) used (length t) f .within in
-                let room : used + sizeAll (beginPlan v vs) ≤ length log = judged-room (record { log = log; used = used; table = t; count = countOf t }) (beginPlan v vs) refl j within in
-                let q : planOf (handleOf v false vs) ≡ beginPlan v vs = plan-made v vs l in
-                rw (er, el, et)
-                (record {
-                  bytes = all-log (record { log = log; used = used; table = t; count = countOf t }) (beginPlan v vs) room ∙ ap (λ (es : List Entry). put log used (bytesAll es)) (sym q);
-                  words = refl;
-                  long = all-words (record { log = log; used = used; table = t; count = countOf t }) (beginPlan v vs) (count-within t);
-                  ends = ends-at used (length log) q room;
-                  blank = refl;
-                  bad = rw f;
-                  answer = λ g. ap (λ (c : Changed). begunBy c (handleOf v false vs)) (fine-answer log used t v vs g within j) ∙ sym a ∙ in-map g;
-                  again = λ g z. let w = fine-appends log used t v vs g within j in again-at used q (w .ends) (w .again);
-                  map = λ g z. let w = fine-appends log used t v vs g within j in map-at used (appendedAll (record { log = log; used = used; table = t; count = countOf t }) (beginPlan v vs) .log) (mapOf log used) q (w .ends) (w .map);
-                })
-
-            pub begin-started : {r : Begun} {log′ t′ : List ℕ} → Starts (record { log = log; used = used; table = t; count = n }) (planBy k (s .handle .version) (setBytes (setOf (s .handle)))) (s .handle) r log′ t′
-                → Begins log used t r log′ t′
-            begin-started w =
-                let x = opens in
-                let eh = seen-made x few in
-                let ep : planBy k (s .handle .version) (setBytes (setOf (s .handle))) ≡ beginPlan (x .v) (x .vs) = λ j. planBy (x .many j) (seen-version x j) (setBytes (seen-set x few j)) in
-                by-plan (x .v) (x .vs) (omega (arith, x .many)) judged-answer (judgeAll log used t (countOf t) (beginPlan (x .v) (x .vs))) refl
-                (w .answer ∙ (λ j. startedBy (judgeAll log used t (en j) (ep j)) (used + sizeAll (ep j)) (eh j)))
-                (w .log ∙ (λ j. onFine (judgeAll log used t (en j) (ep j)) (appendedAll (record { log = log; used = used; table = t; count = en j }) (ep j) .log) log))
-                (w .table ∙ (λ j. onFine (judgeAll log used t (en j) (ep j)) (appendedAll (record { log = log; used = used; table = t; count = en j }) (ep j) .table) t))
+          pub begin-started : k < maxOpen → {r : Begun} {log′ t′ : List ℕ} → r ≡ begunBy (r .answer) (s .handle)
+              → Appends log t m (planBy k (s .handle .version) (setBytes (setOf (s .handle)))) (r .answer) log′ t′ → Begins log (used .len) t r log′ t′
+          begin-started few {r} {log′} {t′} er w =
+              let x = opens in
+              let eh = seen-made x few in
+              let ep : planBy k (s .handle .version) (setBytes (setOf (s .handle))) ≡ beginPlan (x .v) (x .vs) = λ j. planBy (x .many j) (seen-version x j) (setBytes (seen-set x few j)) in
+              let judged : beginBy log (used .len) (length t) nextSeen openSeen ≡ begunBy (appendAnswer log (used .len) (length t) (beginPlan (x .v) (x .vs))) (handleOf (x .v) false (x .vs)) =
+              rw (x .version, x .all, unspent, lt-leb maxOpen (length (x .vs)) (omega (arith, x .many))) in
+              let z : Appends log t (markOf used t) (beginPlan (x .v) (x .vs)) (r .answer) log′ t′ =
+              subst (λ (k : Mark). Appends log t k (beginPlan (x .v) (x .vs)) (r .answer) log′ t′) (in-fits log used t a ea m e .1)
+              (subst (λ (es : List Entry). Appends log t m es (r .answer) log′ t′) ep w) in
+              subst (λ (y : Begun). Begins log (used .len) t y log′ t′) (sym (er ∙ ap (begunBy (r .answer)) eh)) (by-answer (x .v) (x .vs) (omega (arith, x .many)) judged (r .answer) z)

@@ -1,39 +1,52 @@
--- Where the table agrees with the log, a range's writes undone and one key more deleted are their tombstones appended, and the table agrees
--- again. Assumes nothing.
-use Prim.Native.Nat.{ℕ, suc, _+_, _-_, _<_, _≤_}
+-- Where the table agrees with the log, a span's writes undone and one key more deleted are their tombstones appended. Assumes nothing.
+use Prim.Native.Nat.{ℕ, zero, suc, _+_, _-_, _≤_}
 use mathlib.Core.Path.{_≡_, refl, sym, ap, _∙_, subst}
+use mathlib.Core.Bool.{Bool, true, false}
 use mathlib.Core.Option.{Option, none, some}
 use mathlib.Core.List.{List, [], _∷_, _++_, append-assoc}
 use native.Mathlib.Decide.{decLe}
 use native.Mathlib.Omega.{arith}
-use lib.ListN.{length, take, drop}
+use lib.Dec.{leb}
+use lib.ListN.{length, take, drop, take-append-drop}
 use lib.Seq.{length-take-le}
-use borrow.Author.Tests.{lt-ltb}
+use Rattle.keycode.specs.Tests.{pick}
 use Rattle.keycode.specs.key.Keys.{encode, version}
+use Rattle.keycode.specs.declared.refusal.Refusal.the-variants.{LogFull, BadStore}
+use Rattle.keycode.proofs.NumberLaws.{Bytes, bytes-take, bytes-drop}
 use Rattle.bitcask.specs.entry.Entry.{Entry, del}
-use Rattle.bitcask.specs.declared.keydir.slots.Slot.{Slot}
-use Rattle.bitcask.specs.keydir.Slots.{slotsOf, keyOf}
-use Rattle.bitcask.specs.keydir.Place.{countOf, All, all-more}
-use Rattle.bitcask.proofs.keydir.SlotLaws.{slots-length}
-use Rattle.bitcask.specs.recovery.Map.{Pair}
-use Rattle.bitcask.specs.recovery.Recover.{view}
-use Rattle.bitcask.specs.recovery.Agree.{Agrees}
-use Rattle.bitcask.proofs.recovery.ViewLaws.{pairOf}
-use Rattle.bitcask.specs.change.Append.{State, appended, sizeAll}
-use Rattle.mvcc.specs.declared.range.Span.{Span}
-use Rattle.mvcc.specs.request.Ranges.{slice}
-use Rattle.mvcc.specs.request.Lists.{appendedAll, Dels, dels-none, dels-more, stateOf}
-use Rattle.mvcc.proofs.request.ListLaws.{Appends, all-used, all-size, all-append, size-append}
-use Rattle.mvcc.proofs.request.FitLaws.{dels-append}
-use Rattle.mvcc.specs.delete_range.Cuts.{cutKey, delsOf}
-use Rattle.mvcc.proofs.delete_range.ManyLaws.{single, key-cut}
-use Rattle.mvcc.proofs.delete_range.RoomLaws.{slice-end}
-use Rattle.mvcc.proofs.delete_range.TurnLaws.{slot-below}
-use Rattle.mvcc.proofs.delete_range.ClearedLaws.{parts, slice-length}
-use Rattle.mvcc.specs.undo.Plans.{userIn, undoBy, undosOf}
-use Rattle.mvcc.specs.undo.Undo.{undoSlot, undoMany, undone}
-use Rattle.mvcc.proofs.undo.UndoKeyLaws.{named-long, Written}
-use Rattle.mvcc.proofs.undo.UndoTurnLaws.{turn-steps, turn-undone}
+use Rattle.bitcask.specs.keydir.Place.{All, all-none, all-more}
+use Rattle.bitcask.specs.recovery.Map.{Pair, Rising}
+use Rattle.bitcask.specs.recovery.Recover.{mapOf}
+use Rattle.bitcask.proofs.recovery.FoldLaws.{map-rising}
+use Rattle.bitcask.specs.declared.request.Changed.{Changed}
+use Rattle.bitcask.specs.declared.request.Changed.the-variants as Change
+use Rattle.bitcask.specs.declared.append.Room.{Room}
+use Rattle.bitcask.specs.declared.append.Room.the-variants.{Left, Full}
+use Rattle.bitcask.specs.change.Append.{State, appended, roomAfter, sizeAll}
+use Rattle.bitcask.specs.declared.engine.mark.Mark.{Mark}
+use Rattle.bitcask.specs.declared.engine.span.Span.{Span}
+use Rattle.bitcask.specs.engine.Rows.{Row, rows, pairs, Stands}
+use Rattle.bitcask.specs.engine.Spots.{rank}
+use Rattle.bitcask.specs.engine.Marks.{Held, Agreeing, markOf}
+use Rattle.bitcask.specs.engine.Ranges.{rowsFrom, between}
+use Rattle.bitcask.specs.engine.Endings.{tombstones, roomTombs}
+use Rattle.bitcask.proofs.engine.RowLaws.{rows-map, rows-stand}
+use Rattle.bitcask.proofs.engine.SpanLaws.{width-rows}
+use Rattle.bitcask.proofs.engine.PairLaws.{pairOf, pairs-length, pairs-from}
+use Rattle.bitcask.proofs.engine.LeftLaws.{Keeps, keeps-more, keeps-held}
+use Rattle.bitcask.proofs.engine.AgainLaws.{Right}
+use Rattle.mvcc.specs.request.Lists.{appendedAll, roomAll, Dels, dels-none, dels-more}
+use Rattle.mvcc.proofs.request.ListLaws.{size-append}
+use Rattle.mvcc.proofs.request.FitLaws.{room-all}
+use Rattle.mvcc.specs.undo.Plans.{userIn, undoBy, undosOf, allUsers}
+use Rattle.mvcc.specs.undo.Undo.{undoRow, undoMany, undoing, Undoes}
+use Rattle.mvcc.specs.end.Promises.{among}
+use Rattle.mvcc.specs.end.Ways.{storeOf, delWhere, Closes}
+use Rattle.mvcc.proofs.end.EndLaws.{leaves-refused, room-append, room-rows}
+use Rattle.mvcc.proofs.end.CloseLaws.{del-where-keeps, last-size, last-appended, last-room, closes-full, closes-done}
+use Rattle.mvcc.proofs.undo.UndoKeyLaws.{named-long, Written, all-written}
+use Rattle.mvcc.proofs.undo.UndoStepLaws.{many-keeps}
+use Rattle.mvcc.proofs.undo.UndoTurnLaws.{Below, below-tail, rising-below, turn-steps, turn-undone}
 
 -- ---- the entries
 
@@ -51,10 +64,10 @@ undos-dels v [] key = dels-more dels-none
 undos-dels v (q ∷ m) key = subst Dels (sym (append-assoc (undoBy v (q .key) (userIn (q .key))) (undosOf v m) (del key ∷ []))) (by-dels v (q .key) (userIn (q .key)) (undos-dels v m key))
 
 -- a Version key is as long as the TxnWrite key that names it
-pub undos-size : (v : ℕ) (log : List ℕ) (xs : List Slot) → All (λ (q : Pair). Written (q .key)) (view log xs) → sizeAll (undosOf v (view log xs)) ≡ sizeAll (delsOf log xs) + sizeAll (delsOf log xs)
-unfolding view delsOf sizeAll
-undos-size v log [] a = unfold undosOf in refl
-undos-size v log (x ∷ xs) (all-more w a) = omega (arith, ap sizeAll (undos-more v (pairOf log x) (view log xs) w), named-long (w .wrote) v, undos-size v log xs a)
+undos-size : (v : ℕ) (rs : List Row) → All (λ (q : Pair). Written (q .key)) (pairs rs) → sizeAll (undosOf v (pairs rs)) ≡ sizeAll (tombstones rs) + sizeAll (tombstones rs)
+unfolding pairs tombstones sizeAll
+undos-size v [] a = unfold undosOf in refl
+undos-size v (r ∷ rs) (all-more w a) = omega (arith, ap sizeAll (undos-more v (pairOf r) (pairs rs) w), named-long (w .wrote) v, undos-size v rs a)
 
 -- ---- the loop
 
@@ -62,74 +75,143 @@ none-undone : (s : State) (i v : ℕ) → undoMany 0 s i v ≡ appendedAll s (un
 unfolding undoMany appendedAll undosOf
 none-undone s i v = refl
 
-turned : (v n : ℕ) (s : State) (i : ℕ) → i < s .count → undoMany (suc n) s i v ≡ undoMany n (undoSlot s i v) i v
+turned : (v n : ℕ) (s : State) (i : ℕ) → undoMany (suc n) s i v ≡ undoMany n (undoRow s i v) i v
 unfolding undoMany
-turned v n s i h = rw (lt-ltb i (s .count) h)
+turned v n s i = refl
 
--- the slots xs, which stand behind pre
-pub undos-agree : (v : ℕ) (xs : List Slot) (s : State) → Agrees (s .log) (s .used) (s .table) → s .count ≡ countOf (s .table) → (pre post : List Slot)
-    → slotsOf (s .count) (s .table) ≡ pre ++ (xs ++ post) → All (λ (q : Pair). Written (q .key)) (view (s .log) xs)
-    → s .used + sizeAll (undosOf v (view (s .log) xs)) ≤ length (s .log) → undoMany (length xs) s (length pre) v ≡ appendedAll s (undosOf v (view (s .log) xs))
-unfolding view sizeAll
-undos-agree v [] s g en pre post es a room = none-undone s (length pre) v
-undos-agree v (x ∷ xs) s g en pre post es (all-more w a) room =
-    let e = undos-more v (pairOf (s .log) x) (view (s .log) xs) w in
-    let r : s .used + (8 + length (encode (version (w .user) v)) + (8 + length (keyOf (s .log) x))) ≤ length (s .log) = omega (arith, ap sizeAll e) in
-    let s′ : State = appended (appended s (del (encode (version (w .user) v)))) (del (keyOf (s .log) x)) in
-    let t = turn-steps s g en pre x xs post es (all-more w a) w v r in
-    let q : sizeAll (undosOf v (view (s′ .log) xs)) ≡ sizeAll (undosOf v (view (s .log) xs)) = ap (λ (m : List Pair). sizeAll (undosOf v m)) (sym (t .views)) in
-    turned v (length xs) s (length pre) (slot-below s g en pre x (xs ++ post) es)
-    ∙ ap (λ (y : State). undoMany (length xs) y (length pre) v) (turn-undone s g en pre x xs post es (all-more w a) w v r)
-    ∙ undos-agree v xs s′ (t .agrees) (t .counted) pre (t .post) (t .slots) (subst (All (λ (p : Pair). Written (p .key))) (t .views) a) (omega (arith, ap sizeAll e, q, t .ends, t .long))
-    ∙ ap (λ (m : List Pair). appendedAll s′ (undosOf v m)) (sym (t .views)) ∙ unfold appendedAll in (ap (appendedAll s) (sym e))
-
--- ---- a range's, and one key more
-
-undoing-size : (v : ℕ) (m : List Pair) (key : List ℕ) → sizeAll (undosOf v m ++ (del key ∷ [])) ≡ sizeAll (undosOf v m) + (8 + length key)
+-- the pairs xs, which stand behind pre in the map
+undos-agree : (v : ℕ) (xs : List Pair) (s : State) → Right s → (pre post : List Pair) → mapOf (s .log) (s .used) ≡ pre ++ (xs ++ post) → Below pre xs → All (λ (q : Pair). Written (q .key)) xs
+    → s .used + sizeAll (undosOf v xs) ≤ length (s .log) → undoMany (length xs) s (length pre) v ≡ appendedAll s (undosOf v xs)
 unfolding sizeAll
-undoing-size v m key = omega (arith, size-append (undosOf v m) (del key ∷ []))
+undos-agree v [] s g pre post es b a room = none-undone s (length pre) v
+undos-agree v (q ∷ xs) s g pre post es b (all-more w a) room =
+    let e = undos-more v q xs w in
+    let r : s .used + (8 + length (encode (version (w .user) v)) + (8 + length (q .key))) ≤ length (s .log) = omega (arith, ap sizeAll e) in
+    let s′ : State = appended (appended s (del (encode (version (w .user) v)))) (del (q .key)) in
+    let t = turn-steps s g pre q xs post es b (all-more w a) w v r in
+    turned v (length xs) s (length pre)
+    ∙ ap (λ (y : State). undoMany (length xs) y (length pre) v) (turn-undone s g pre q xs post es b (all-more w a) w v r)
+    ∙ undos-agree v xs s′ (t .right) pre (t .post) (t .map) (below-tail q xs b) a (omega (arith, ap sizeAll e, t .ends, t .long))
+    ∙ unfold appendedAll in (ap (appendedAll s) (sym e))
 
-none-view : (log : List ℕ) → view log [] ≡ []
-unfolding view
-none-view log = refl
+-- ---- the rows of a span
 
-module _ (log : List ℕ) (used : ℕ) (t : List ℕ) (n : ℕ) (span : Span) (v : ℕ) (key : List ℕ) (g : Agrees log used t) (en : n ≡ countOf t) (from : span .from ≤ n) (to : span .to ≤ n)
-    (a : All (λ (q : Pair). Written (q .key)) (view log (slice (span .from) (span .to) (slotsOf n t)))) where
-  abbrev xs : List Slot
-  xs = slice (span .from) (span .to) (slotsOf n t)
+parts : (a b : ℕ) (ps : List Pair) → a ≤ b → ps ≡ take a ps ++ (drop a (take b ps) ++ drop b ps)
+parts zero b ps h = sym (take-append-drop b ps)
+parts (suc a) zero ps h = absurd (omega arith)
+parts (suc a) (suc b) [] h = refl
+parts (suc a) (suc b) (q ∷ ps) h = ap (λ (r : List Pair). q ∷ r) (parts a b ps (omega arith))
 
-  abbrev m : List Pair
-  m = view log xs
+all-take : {P : Row → Type 0} (n : ℕ) {rs : List Row} → All P rs → All P (take n rs)
+all-take zero a = all-none
+all-take (suc n) all-none = all-none
+all-take (suc n) (all-more p a) = all-more p (all-take n a)
+
+all-drop : {P : Row → Type 0} (n : ℕ) {rs : List Row} → All P rs → All P (drop n rs)
+all-drop zero a = a
+all-drop (suc n) all-none = all-none
+all-drop (suc n) (all-more p a) = all-drop n a
+
+-- keys that stand in a log are bytes
+stand-bytes : (log : List ℕ) → Bytes log → {rs : List Row} → All (Stands log) rs → All (λ (q : Pair). Bytes (q .key)) (pairs rs)
+unfolding pairs
+stand-bytes log b all-none = all-none
+stand-bytes log b (all-more {x = r} s a) = all-more (subst Bytes (s .key) (bytes-take (length (r .key)) (drop (r .at) log) (bytes-drop (r .at) log b))) (stand-bytes log b a)
+
+size-same : (n : ℕ) (es fs : List Entry) → sizeAll es ≡ sizeAll fs → roomAll (Left n) es ≡ roomAll (Left n) fs
+size-same n es fs e = room-all n es ∙ ap (λ (k : ℕ). pick (leb k n) (Left (n - k)) Full) e ∙ sym (room-all n fs)
+
+module _ (log t : List ℕ) (m : Mark) (span : Span) (v : ℕ) (key : List ℕ) (h : Held log t m) (k : rank (span .to) (rows log t m) ≤ length (rows log t m)) where
+  abbrev i : ℕ
+  i = rank (span .from) (rows log t m)
+
+  abbrev j : ℕ
+  j = rank (span .to) (rows log t m)
+
+  abbrev rs : List Row
+  rs = between (span .from) (span .to) (rows log t m)
+
+  abbrev ps : List Pair
+  ps = pairs (rows log t m)
+
+  abbrev es : List Entry
+  es = undosOf v (pairs rs) ++ (del key ∷ [])
 
   abbrev s : State
-  s = stateOf log used t n
+  s = storeOf log t m
 
-  module _ (room : used + sizeAll (undosOf v m ++ (del key ∷ [])) ≤ length log) where
-    many : undoMany (span .to - span .from) s (span .from) v ≡ appendedAll s (undosOf v m)
-    many = go (decLe (span .from) (span .to))
-      where
-        go : Dec (span .from ≤ span .to) → undoMany (span .to - span .from) s (span .from) v ≡ appendedAll s (undosOf v m)
-        go (yes h) =
-            let l = slice-length (span .from) (span .to) (slotsOf n t) (omega (arith, slots-length n t)) in
-            let p = length-take-le (span .from) (slotsOf n t) (omega (arith, slots-length n t)) in
-            ap (λ (k : ℕ). undoMany k s (span .from) v) (sym l) ∙ ap (λ (i : ℕ). undoMany (length xs) s i v) (sym p)
-            ∙ undos-agree v xs s g en (take (span .from) (slotsOf n t)) (drop (span .to) (slotsOf n t)) (parts (span .from) (span .to) (slotsOf n t) h) a (omega (arith, undoing-size v m key))
-        go (no h) =
-            let z : span .to - span .from ≡ 0 = omega arith in
-            let e : xs ≡ [] = slice-end (slotsOf n t) (span .from) (span .to) (omega arith) (omega (arith, slots-length n t)) in
-            ap (λ (k : ℕ). undoMany k s (span .from) v) z ∙ none-undone s (span .from) v ∙ ap (λ (p : List Pair). appendedAll s (undosOf v p)) (sym (ap (view log) e ∙ none-view log))
+  abbrev free : Room
+  free = Left (length log - m .used .len)
 
-    undone-agrees : undone s span v key ≡ appendedAll s (undosOf v m ++ (del key ∷ []))
-    unfolding undone
-    undone-agrees =
-        let u = all-used s (undosOf v m) in
-        let l = all-size s (undosOf v m) (omega (arith, undoing-size v m key)) in
-        ap (λ (x : State). cutKey x key) many
-        ∙ sym (key-cut (appendedAll s (undosOf v m)) key (omega (arith, undoing-size v m key)) refl)
-        ∙ sym (single (appendedAll s (undosOf v m)) key)
-        ∙ sym (all-append s (undosOf v m) (del key ∷ []))
+  at-answer : {a b r : Changed} {ns log′ t′ : List ℕ} → a ≡ b → Closes log t m es ns b r log′ t′ → Closes log t m es ns a r log′ t′
+  at-answer e c = rw e c
 
-    pub undone-appends : Appends log used t (undosOf v (view log (slice (span .from) (span .to) (slotsOf n t))) ++ (del key ∷ [])) (undone (stateOf log used t n) span v key)
-    undone-appends =
-        subst (Appends log used t (undosOf v m ++ (del key ∷ []))) (sym undone-agrees)
-        (dels-append log used t (undosOf v m ++ (del key ∷ [])) g n en room (undos-dels v m key))
+  pub undo-bad : {b : Bool} → b ≡ allUsers (pairs rs) → b ≡ false → Undoes log t m rs v key (Change.Refused BadStore) log t
+  unfolding among undoing
+  undo-bad e f = let z : allUsers (pairs rs) ≡ false = sym e ∙ f in at-answer (rw z) (record { leaves = leaves-refused log (m .used .len) t es BadStore; numbers = refl; answer = λ g. refl })
+
+  module _ (y : Bytes log) {b : Bool} (eb : b ≡ allUsers (pairs rs)) (et : b ≡ true) where
+    every : allUsers (pairs rs) ≡ true
+    every = sym eb ∙ et
+
+    written : All (λ (q : Pair). Written (q .key)) (pairs rs)
+    unfolding between rowsFrom
+    written = all-written (pairs rs) (stand-bytes log y (all-drop i (all-take j (rows-stand log t m)))) every
+
+    module _ {once twice left : Room} (eo : once ≡ roomTombs (Left (length log - m .used .len)) rs) (ew : twice ≡ roomTombs once rs) (el : left ≡ roomAfter twice (length key) 0) where
+      -- the room that the code finds is the list's
+      undo-room : left ≡ roomAll free es
+      undo-room =
+          let ds : List Entry = tombstones rs in
+          el
+          ∙ ap (λ (r : Room). roomAfter r (length key) 0)
+          (ew ∙ ap (λ (r : Room). roomTombs r rs) eo ∙ room-rows (roomTombs free rs) rs ∙ ap (λ (r : Room). roomAll r ds) (room-rows free rs) ∙ sym (room-append free ds ds))
+          ∙ last-room free (ds ++ ds) key
+          ∙ size-same (length log - m .used .len) ((ds ++ ds) ++ (del key ∷ [])) es
+          (omega (arith, last-size (ds ++ ds) key, size-append ds ds, last-size (undosOf v (pairs rs)) key, undos-size v rs written))
+
+      pub undo-full : left ≡ Full → Undoes log t m rs v key (Change.Refused LogFull) log t
+      unfolding among undoing
+      undo-full z = at-answer (rw every) (closes-full log t m es (0 ∷ 7 ∷ 12 ∷ []) refl (sym undo-room ∙ z))
+
+      module _ {n : ℕ} (en : n ≡ rank (span .to) (rows log t m) - rank (span .from) (rows log t m)) where
+        pairs-are : pairs rs ≡ drop i (take j ps)
+        unfolding between
+        pairs-are = pairs-from i j (rows log t m)
+
+        many-is : n ≡ length (pairs rs)
+        many-is = en ∙ sym (pairs-length rs ∙ width-rows (span .from) (span .to) (rows log t m) k)
+
+        all-undone : Agreeing log t m → m .used .len + sizeAll (undosOf v (pairs rs)) ≤ length log → undoMany n s i v ≡ appendedAll s (undosOf v (pairs rs))
+        all-undone g room = go (decLe i j)
+          where
+            lone : (xs : List Pair) → length xs ≡ 0 → undoMany (length xs) s i v ≡ appendedAll s (undosOf v xs)
+            lone [] e = none-undone s i v
+            lone (q ∷ xs) e = absurd (omega arith)
+
+            go : Dec (i ≤ j) → undoMany n s i v ≡ appendedAll s (undosOf v (pairs rs))
+            go (no z) = ap (λ (x : ℕ). undoMany x s i v) many-is ∙ lone (pairs rs) (omega (arith, many-is, en))
+            go (yes z) =
+                let pre : List Pair = take i ps in
+                let l : length pre ≡ i = length-take-le i ps (omega (arith, pairs-length (rows log t m))) in
+                let q : ps ≡ pre ++ (pairs rs ++ drop j ps) = parts i j ps z ∙ ap (λ (xs : List Pair). pre ++ (xs ++ drop j ps)) (sym pairs-are) in
+                let f : mapOf log (m .used .len) ≡ pre ++ (pairs rs ++ drop j ps) = sym (rows-map log t m g) ∙ q in
+                ap (λ (x : ℕ). undoMany x s i v) many-is ∙ ap (λ (x : ℕ). undoMany (length (pairs rs)) s x v) (sym l)
+                ∙ undos-agree v (pairs rs) s (record { agrees = g .agrees; counted = g .count }) pre (drop j ps) f
+                (rising-below pre (pairs rs) (drop j ps) (subst Rising f (map-rising log (m .used .len)))) written room
+
+        module _ {log′ t′ : List ℕ} {mid : Mark} (e : storeOf log′ t′ mid ≡ undoMany n (storeOf log t m) (rank (span .from) (rows log t m)) v) where
+          mid-keeps : Keeps s (storeOf log′ t′ mid)
+          mid-keeps = subst (Keeps s) (sym e) (many-keeps n s i v h)
+
+          undo-held : Held log′ t′ mid
+          undo-held = keeps-held h mid-keeps
+
+          pub undo-done : (x : ℕ) → left ≡ Left x → m ≡ markOf (m .used) t → {l : State} → l ≡ delWhere (storeOf log′ t′ mid) key
+              → Undoes log t m rs v key (Change.Done (record { len = l .used })) (l .log) (l .table)
+          unfolding among undoing
+          undo-done x z em {l} f =
+              at-answer (rw every)
+              (closes-done log t m es (0 ∷ 7 ∷ 12 ∷ []) refl em (undos-dels v (pairs rs) key) x (sym undo-room ∙ z) l
+              (keeps-more mid-keeps (subst (Keeps (storeOf log′ t′ mid)) (sym f) (del-where-keeps key undo-held)))
+              (λ g room. f ∙ ap (λ (q : State). delWhere q key) (e ∙ all-undone g (omega (arith, last-size (undosOf v (pairs rs)) key))) ∙ last-appended s (undosOf v (pairs rs)) key room))

@@ -1,5 +1,5 @@
 -- Which bytes are TxnWrite keys, and the Version keys that they name. Assumes nothing.
-use Prim.Native.Nat.{ℕ, _+_, _-_, _≤_}
+use Prim.Native.Nat.{ℕ, _-_, _≤_}
 use mathlib.Core.Path.{_≡_, refl, sym, ap, _∙_}
 use mathlib.Core.Bool.{true, false}
 use mathlib.Core.Option.{Option, none, some}
@@ -21,17 +21,14 @@ use Rattle.keycode.specs.declared.key.Decoded.the-variants.{Whole, Refused}
 use Rattle.keycode.specs.declared.key.Reading.{Reading}
 use Rattle.keycode.specs.declared.key.Reading.the-variants.{Read, Faulty}
 use Rattle.keycode.proofs.Basics.{nope}
-use Rattle.keycode.proofs.NumberLaws.{Bytes, length-be, bytes-take, bytes-drop}
+use Rattle.keycode.proofs.NumberLaws.{Bytes, length-be}
 use Rattle.keycode.proofs.BufferLaws.{length-put}
 use Rattle.keycode.proofs.StringLaws.{escape-length}
 use Rattle.keycode.proofs.WriteLaws.{writes-done}
 use Rattle.keycode.proofs.encode.EncodeLaws.{measure-done, two-put, version-length, write-length}
 use Rattle.keycode.proofs.key.KeyLaws.{encode-decode}
-use Rattle.bitcask.specs.declared.keydir.slots.Slot.{Slot}
-use Rattle.bitcask.specs.keydir.Slots.{keyOf}
 use Rattle.bitcask.specs.keydir.Place.{All, all-none, all-more}
 use Rattle.bitcask.specs.recovery.Map.{Pair}
-use Rattle.bitcask.specs.recovery.Recover.{view}
 use Rattle.bitcask.proofs.recovery.AgreeLaws.{both}
 use Rattle.keycode.specs.code.Codes.{keyBytes, Codes}
 use Rattle.keycode.proofs.code.CodeLaws.{code-made, version-fits, write-fits}
@@ -122,12 +119,10 @@ pub record Written (b : List ℕ) : Type 0 where
   pub says : userIn b ≡ some user
   pub wrote : Wrote b user
 
-pub all-written : (log : List ℕ) → Bytes log → (xs : List Slot) → allUsers (view log xs) ≡ true → All (λ (q : Pair). Written (q .key)) (view log xs)
-unfolding allUsers view keyOf
-all-written log y [] e = all-none
-all-written log y (x ∷ xs) e =
-    let b = keyOf log x in
-    let p = both (isUser (userIn b)) (allUsers (view log xs)) e in
-    let q = user-some (userIn b) (p .0) in
-    let w : Written b = record { user = q .0; says = q .1; wrote = user-wrote b (q .0) (bytes-take (x .klen) (drop (x .place + 7) log) (bytes-drop (x .place + 7) log y)) (q .1) } in
-    all-more w (all-written log y xs (p .1))
+pub all-written : (ps : List Pair) → All (λ (q : Pair). Bytes (q .key)) ps → allUsers ps ≡ true → All (λ (q : Pair). Written (q .key)) ps
+unfolding allUsers
+all-written [] all-none e = all-none
+all-written (q ∷ ps) (all-more y a) e =
+    let p = both (isUser (userIn (q .key))) (allUsers ps) e in
+    let u = user-some (userIn (q .key)) (p .0) in
+    all-more (record { user = u .0; says = u .1; wrote = user-wrote (q .key) (u .0) y (u .1) }) (all-written ps a (p .1))

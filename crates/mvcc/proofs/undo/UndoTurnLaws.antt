@@ -1,165 +1,176 @@
 -- Where the table agrees with the log, one write undone is two tombstones appended: a Version key sorts behind every TxnWrite key, so that
--- deleting it leaves the slots of the writes where they are. Assumes nothing.
-use Prim.Native.Nat.{ℕ, _+_, _≤_}
-use mathlib.Core.Path.{_≡_, refl, sym, ap, _∙_, subst}
-use mathlib.Core.Option.{some}
-use mathlib.Core.List.{List, [], _∷_, _++_, append-assoc}
+-- deleting it leaves the records of the writes where they are. Assumes nothing.
+use Prim.Native.Nat.{ℕ, _+_, _≤_, _<_}
+use mathlib.Core.Path.{_≡_, refl, sym, ap, _∙_}
+use mathlib.Core.List.{List, [], _∷_, _++_}
 use native.Mathlib.Omega.{arith}
-use lib.ListN.{length}
+use lib.ListN.{length, getD, length-append}
+use borrow.Author.Tests.{lt-ltb}
 use Rattle.keycode.specs.Order.{compareBytes}
 use Rattle.keycode.specs.key.Keys.{encode, txnWrite, version}
 use Rattle.keycode.specs.declared.order.Order.the-variants.{Less}
-use Rattle.keycode.proofs.OrderLaws.{compare-trans}
+use Rattle.keycode.proofs.OrderLaws.{compare-refl, compare-trans}
 use Rattle.keycode.proofs.key.KeyOrder.{order-tags}
 use Rattle.bitcask.specs.entry.Entry.{del}
-use Rattle.bitcask.specs.declared.keydir.slots.Slot.{Slot}
-use Rattle.bitcask.specs.declared.keydir.place.Found.{Found}
-use Rattle.bitcask.specs.declared.keydir.place.Found.the-variants.{At, Before}
-use Rattle.bitcask.specs.keydir.Slots.{slotsOf, keyOf, removeAt}
-use Rattle.bitcask.specs.keydir.Place.{further, placeIn, cutAt, countOf, All, all-none, all-more, Sorted, sorted-more}
-use Rattle.bitcask.proofs.keydir.SortLaws.{all-turn, all-append}
-use Rattle.bitcask.specs.recovery.Map.{Pair}
-use Rattle.bitcask.specs.recovery.Recover.{view}
-use Rattle.bitcask.specs.recovery.Agree.{Agrees}
-use Rattle.bitcask.proofs.recovery.ViewLaws.{pairOf}
-use Rattle.bitcask.proofs.recovery.FoldLaws.{Inside, view-same}
+use Rattle.bitcask.specs.keydir.Place.{All, all-none, all-more}
+use Rattle.bitcask.specs.recovery.Map.{Pair, cutIn, after, Rising, rising-more}
+use Rattle.bitcask.specs.recovery.Recover.{mapOf}
 use Rattle.bitcask.specs.change.Append.{State, appended, sizeAll}
+use Rattle.bitcask.specs.declared.engine.mark.Mark.{Mark}
+use Rattle.bitcask.specs.engine.Rows.{blank, rows, pairs}
+use Rattle.bitcask.proofs.engine.RowLaws.{rows-map, rows-count}
+use Rattle.bitcask.proofs.engine.PairLaws.{pairOf, pairs-length, pairs-at}
+use Rattle.bitcask.proofs.engine.AgainLaws.{Right, del-right, del-map, row-ended}
 use Rattle.mvcc.specs.request.Lists.{appendedAll}
-use Rattle.mvcc.specs.delete_range.Cuts.{cutMany, delsOf}
-use Rattle.mvcc.proofs.delete_range.ManyLaws.{key-cut}
-use Rattle.mvcc.proofs.delete_range.AgreedLaws.{all-at}
-use Rattle.mvcc.proofs.delete_range.TurnLaws.{all-front, all-past, slots-inside, slots-sorted, del-slots, del-appends, del-same, del-long, del-used, next-slots, slot-here, many-agrees}
+use Rattle.mvcc.proofs.request.ListLaws.{all-size}
 use Rattle.mvcc.specs.undo.Plans.{userIn}
-use Rattle.mvcc.specs.undo.Undo.{undoOne, undoSlot}
+use Rattle.mvcc.specs.undo.Undo.{rowsAt, endWhere, undoOne, undoRow}
+use Rattle.mvcc.proofs.end.CloseLaws.{del-done}
 use Rattle.mvcc.proofs.undo.UndoKeyLaws.{Written}
 
--- ---- a key behind some slots taken out
+-- ---- keys taken out of a map
 
-cut-further : (x : Slot) (ss : List Slot) (f : Found) → cutAt (further f) (x ∷ ss) ≡ x ∷ cutAt f ss
-unfolding removeAt
-cut-further x ss (At i) = refl
-cut-further x ss (Before i) = refl
+abbrev pub Under : List ℕ → Pair → Type 0
+Under k q = compareBytes (q .key) k ≡ Less
 
-abbrev Under : List ℕ → List ℕ → Slot → Type 0
-Under log k x = compareBytes (keyOf log x) k ≡ Less
+-- every key of the first pairs is below every one of the second
+abbrev pub Below : List Pair → List Pair → Type 0
+Below pre xs = All (λ (p : Pair). All (λ (q : Pair). compareBytes (p .key) (q .key) ≡ Less) xs) pre
 
-cut-past : (log k : List ℕ) {front : List Slot} (post : List Slot) → All (Under log k) front → cutAt (placeIn log k (front ++ post)) (front ++ post) ≡ front ++ cutAt (placeIn log k post) post
-unfolding placeIn
-cut-past log k post all-none = refl
-cut-past log k post (all-more {x = x} {xs = front} e a) =
-    rw e (cut-further x (front ++ post) (placeIn log k (front ++ post)) ∙ ap (λ (r : List Slot). x ∷ r) (cut-past log k post a))
+cut-past : (k : List ℕ) {front : List Pair} (post : List Pair) → All (Under k) front → cutIn k (front ++ post) ≡ front ++ cutIn k post
+unfolding cutIn
+cut-past k post all-none = refl
+cut-past k post (all-more {x = q} {xs = front} e a) = rw e (ap (λ (m : List Pair). q ∷ m) (cut-past k post a))
 
-before-all : (log : List ℕ) (pre : List Slot) (x : Slot) (rest : List Slot) → Sorted log (pre ++ (x ∷ rest)) → All (Under log (keyOf log x)) pre
-before-all log [] x rest o = all-none
-before-all log (y ∷ pre) x rest (sorted-more a o) = all-more (all-at pre x rest a) (before-all log pre x rest o)
+cut-here : (q : Pair) (m : List Pair) → cutIn (q .key) (q ∷ m) ≡ m
+unfolding cutIn
+cut-here q m = rw (compare-refl (q .key))
 
+-- below the first of them
+below-head : (k : List ℕ) {pre : List Pair} (q : Pair) (xs : List Pair) → compareBytes (q .key) k ≡ Less → Below pre (q ∷ xs) → All (Under k) pre
+below-head k q xs e all-none = all-none
+below-head k q xs e (all-more {x = p} (all-more h a) b) = all-more (compare-trans (p .key) (q .key) k h e) (below-head k q xs e b)
+
+pub below-tail : {pre : List Pair} (q : Pair) (xs : List Pair) → Below pre (q ∷ xs) → Below pre xs
+below-tail q xs all-none = all-none
+below-tail q xs (all-more (all-more h a) b) = all-more a (below-tail q xs b)
+
+below-own : {pre : List Pair} (q : Pair) (xs : List Pair) → Below pre (q ∷ xs) → All (Under (q .key)) pre
+below-own q xs all-none = all-none
+below-own q xs (all-more (all-more h a) b) = all-more h (below-own q xs b)
+
+all-front : {P : Pair → Type 0} (xs post : List Pair) → All P (xs ++ post) → All P xs
+all-front [] post a = all-none
+all-front (x ∷ xs) post (all-more p a) = all-more p (all-front xs post a)
+
+all-past : {P : Pair → Type 0} (pre xs : List Pair) → All P (pre ++ xs) → All P xs
+all-past [] xs a = a
+all-past (p ∷ pre) xs (all-more h a) = all-past pre xs a
+
+-- the parts of a map are so
+pub rising-below : (pre xs post : List Pair) → Rising (pre ++ (xs ++ post)) → Below pre xs
+rising-below [] xs post r = all-none
+rising-below (p ∷ pre) xs post (rising-more a r) = all-more (all-front xs post (all-past pre (xs ++ post) a)) (rising-below pre xs post r)
+
+-- a Version key is behind every TxnWrite key
 written-under : {b : List ℕ} → Written b → (u : List ℕ) (v : ℕ) → compareBytes b (encode (version u v)) ≡ Less
 written-under {b} w u v =
     ap (λ (k : List ℕ). compareBytes k (encode (version u v))) (sym (w .wrote .bytes)) ∙ order-tags (txnWrite (w .wrote .writer) (w .user)) (version u v) (omega arith)
 
-all-under : (log : List ℕ) (xs : List Slot) (u : List ℕ) (v : ℕ) → All (λ (q : Pair). Written (q .key)) (view log xs) → All (Under log (encode (version u v))) xs
-unfolding view
-all-under log [] u v a = all-none
-all-under log (x ∷ xs) u v (all-more w a) = all-more (written-under w u v) (all-under log xs u v a)
+all-under : {xs : List Pair} (u : List ℕ) (v : ℕ) → All (λ (q : Pair). Written (q .key)) xs → All (Under (encode (version u v))) xs
+all-under u v all-none = all-none
+all-under u v (all-more w a) = all-more (written-under w u v) (all-under u v a)
+
+-- ---- the row of a number
+
+at-here : (pre : List Pair) (q : Pair) (m : List Pair) (d : Pair) → getD (pre ++ (q ∷ m)) (length pre) d ≡ q
+at-here [] q m d = refl
+at-here (p ∷ pre) q m d = at-here pre q m d
+
+-- the map of a store that agrees has a pair behind some others: its row
+module _ (s : State) (g : Right s) (pre : List Pair) (q : Pair) (m : List Pair) (e : mapOf (s .log) (s .used) ≡ pre ++ (q ∷ m)) where
+  rows-are : pairs (rowsAt s) ≡ pre ++ (q ∷ m)
+  unfolding rowsAt
+  rows-are = rows-map (s .log) (s .table) (record { used = record { len = s .used }; count = s .count }) (record { agrees = g .agrees; count = g .counted }) ∙ e
+
+  row-here : length pre < length (rowsAt s)
+  row-here = omega (arith, pairs-length (rowsAt s), ap length rows-are, length-append pre (q ∷ m))
+
+  row-key : getD (rowsAt s) (length pre) blank .key ≡ q .key
+  row-key =
+      ap (λ (p : Pair). p .key) (sym (pairs-at (rowsAt s) (length pre)) ∙ ap (λ (ps : List Pair). getD ps (length pre) (pairOf blank)) rows-are ∙ at-here pre q m (pairOf blank))
+
+  row-out : s .used + (8 + length (q .key)) ≤ length (s .log) → endWhere s (length pre) ≡ appended s (del (q .key))
+  unfolding endWhere rowsAt
+  row-out room =
+      let i : ℕ = length pre in
+      let n : Mark = record { used = record { len = s .used }; count = s .count } in
+      let r : i < length (rows (s .log) (s .table) n) = row-here in
+      let k : getD (rows (s .log) (s .table) n) i blank .key ≡ q .key = row-key in
+      rw (lt-ltb i (length (rows (s .log) (s .table) n)) r)
+      (row-ended (s .log) (s .table) n (record { agrees = g .agrees; count = g .counted }) i (omega (arith, rows-count (s .log) (s .table) n)) (omega (arith, ap length k))
+      ∙ ap (λ (y : List ℕ). appended s (del y)) k)
 
 -- ---- one write
 
--- the store s′ agrees again, and the slots xs stand in it behind pre with the keys and values that they had
-pub record Steps (s : State) (pre xs : List Slot) (size : ℕ) (s′ : State) : Type 0 where
-  pub agrees : Agrees (s′ .log) (s′ .used) (s′ .table)
-  pub counted : s′ .count ≡ countOf (s′ .table)
-  pub post : List Slot
-  pub slots : slotsOf (s′ .count) (s′ .table) ≡ pre ++ (xs ++ post)
-  pub views : view (s .log) xs ≡ view (s′ .log) xs
+-- the store s′ agrees again, has used so much more, and the pairs xs stand in its map behind pre
+pub record Turns (s : State) (pre xs : List Pair) (size : ℕ) (s′ : State) : Type 0 where
+  pub right : Right s′
+  pub post : List Pair
+  pub map : mapOf (s′ .log) (s′ .used) ≡ pre ++ (xs ++ post)
   pub long : length (s′ .log) ≡ length (s .log)
   pub ends : s′ .used ≡ s .used + size
 
-module _ (s : State) (g : Agrees (s .log) (s .used) (s .table)) (en : s .count ≡ countOf (s .table)) (pre : List Slot) (x : Slot) (xs post : List Slot)
-    (es : slotsOf (s .count) (s .table) ≡ pre ++ ((x ∷ xs) ++ post)) where
-  insides : All (Inside (s .used)) (x ∷ xs)
-  insides = all-front (x ∷ xs) post (all-past pre ((x ∷ xs) ++ post) (subst (All (Inside (s .used))) es (slots-inside s g en)))
+one-used : (s : State) (k : List ℕ) → appended s (del k) .used ≡ s .used + (8 + length k)
+unfolding appended
+one-used s k = omega arith
 
-  -- a key behind them deleted
-  past-steps : (k : List ℕ) → All (Under (s .log) k) (x ∷ xs) → compareBytes (keyOf (s .log) x) k ≡ Less → s .used + (8 + length k) ≤ length (s .log)
-      → Steps s pre (x ∷ xs) (8 + length k) (appended s (del k))
-  past-steps k a e room =
-      let before = all-turn (λ y h. compare-trans (keyOf (s .log) y) (keyOf (s .log) x) k h e) (before-all (s .log) pre x (xs ++ post) (subst (Sorted (s .log)) es (slots-sorted s g en))) in
-      let w = del-appends s g en k room in
-      record {
-        agrees = w .again;
-        counted = w .counted;
-        post = cutAt (placeIn (s .log) k post) post;
-        slots =
-            del-slots s g en k ∙ ap (λ (ss : List Slot). cutAt (placeIn (s .log) k ss) ss) (es ∙ sym (append-assoc pre (x ∷ xs) post))
-            ∙ cut-past (s .log) k post (all-append before a) ∙ append-assoc pre (x ∷ xs) (cutAt (placeIn (s .log) k post) post);
-        views = view-same (s .log) (appended s (del k) .log) (s .used) (del-same s g en k room) insides;
-        long = del-long s g en k room;
-        ends = del-used s g en k room;
-      }
+one-long : (s : State) (k : List ℕ) → s .used + (8 + length k) ≤ length (s .log) → length (appended s (del k) .log) ≡ length (s .log)
+unfolding appendedAll sizeAll
+one-long s k h = all-size s (del k ∷ []) (omega arith)
 
-  -- the first of them deleted
-  own-steps : s .used + (8 + length (keyOf (s .log) x)) ≤ length (s .log) → Steps s pre xs (8 + length (keyOf (s .log) x)) (appended s (del (keyOf (s .log) x)))
-  own-steps room =
-      let k : List ℕ = keyOf (s .log) x in
-      let w = del-appends s g en k room in
-      record {
-        agrees = w .again;
-        counted = w .counted;
-        post = post;
-        slots = next-slots s g en pre x (xs ++ post) es;
-        views = view-same (s .log) (appended s (del k) .log) (s .used) (del-same s g en k room) (all-past (x ∷ []) xs insides);
-        long = del-long s g en k room;
-        ends = del-used s g en k room;
-      }
+-- the map without a key
+one-map : (s : State) (k : List ℕ) → Right s → s .used + (8 + length k) ≤ length (s .log) → {m : List Pair} → mapOf (s .log) (s .used) ≡ m
+    → mapOf (appended s (del k) .log) (appended s (del k) .used) ≡ cutIn k m
+unfolding after
+one-map s k g h e = del-map s k g (omega arith) ∙ ap (cutIn k) e
 
-  own-cut : s .used + (8 + length (keyOf (s .log) x)) ≤ length (s .log) → cutMany 1 s (length pre) ≡ appended s (del (keyOf (s .log) x))
-  unfolding appendedAll delsOf sizeAll
-  own-cut room = many-agrees (x ∷ []) s g en pre (xs ++ post) es (omega arith)
-
-same-tail : (a b : List ℕ) (x : Slot) (xs : List Slot) → view a (x ∷ xs) ≡ view b (x ∷ xs) → (keyOf a x ≡ keyOf b x) × (view a xs ≡ view b xs)
-unfolding view
-same-tail a b x xs e = let p : pairOf a x ≡ pairOf b x = cc in (ap (λ (q : Pair). q .key) p, cc)
-
-module _ (s : State) (g : Agrees (s .log) (s .used) (s .table)) (en : s .count ≡ countOf (s .table)) (pre : List Slot) (x : Slot) (xs post : List Slot)
-    (es : slotsOf (s .count) (s .table) ≡ pre ++ ((x ∷ xs) ++ post)) (a : All (λ (q : Pair). Written (q .key)) (view (s .log) (x ∷ xs))) (w : Written (keyOf (s .log) x)) (v : ℕ)
-    (room : s .used + (8 + length (encode (version (w .user) v)) + (8 + length (keyOf (s .log) x))) ≤ length (s .log)) where
+module _ (s : State) (g : Right s) (pre : List Pair) (q : Pair) (xs post : List Pair) (e : mapOf (s .log) (s .used) ≡ pre ++ ((q ∷ xs) ++ post))
+    (b : Below pre (q ∷ xs)) (a : All (λ (p : Pair). Written (p .key)) (q ∷ xs)) (w : Written (q .key)) (v : ℕ)
+    (room : s .used + (8 + length (encode (version (w .user) v)) + (8 + length (q .key))) ≤ length (s .log)) where
   abbrev named : List ℕ
   named = encode (version (w .user) v)
 
   abbrev mid : State
   mid = appended s (del named)
 
-  first : Steps s pre (x ∷ xs) (8 + length named) mid
-  first = past-steps s g en pre x xs post es named (all-under (s .log) (x ∷ xs) (w .user) v a) (written-under w (w .user) v) (omega arith)
+  abbrev rest : List Pair
+  rest = xs ++ cutIn named post
 
-  same : (keyOf (s .log) x ≡ keyOf (mid .log) x) × (view (s .log) xs ≡ view (mid .log) xs)
-  same = same-tail (s .log) (mid .log) x xs (first .views)
+  mid-right : Right mid
+  mid-right = del-right s named g (omega arith)
 
-  room-mid : mid .used + (8 + length (keyOf (mid .log) x)) ≤ length (mid .log)
-  room-mid = omega (arith, first .ends, first .long, ap length (same .0))
+  mid-map : mapOf (mid .log) (mid .used) ≡ pre ++ (q ∷ rest)
+  mid-map =
+      one-map s named g (omega arith) e ∙ cut-past named ((q ∷ xs) ++ post) (below-head named q xs (written-under w (w .user) v) b)
+      ∙ ap (λ (m : List Pair). pre ++ m) (cut-past named post (all-under (w .user) v a))
 
-  second : Steps mid pre xs (8 + length (keyOf (mid .log) x)) (appended mid (del (keyOf (mid .log) x)))
-  second = own-steps mid (first .agrees) (first .counted) pre x xs (first .post) (first .slots) room-mid
+  room-mid : mid .used + (8 + length (q .key)) ≤ length (mid .log)
+  room-mid = omega (arith, one-used s named, one-long s named (omega arith))
 
-  both-steps : Steps s pre xs (8 + length named + (8 + length (keyOf (mid .log) x))) (appended mid (del (keyOf (mid .log) x)))
-  both-steps =
+  pub turn-steps : Turns s pre xs (8 + length (encode (version (w .user) v)) + (8 + length (q .key))) (appended (appended s (del (encode (version (w .user) v)))) (del (q .key)))
+  turn-steps =
       record {
-        agrees = second .agrees;
-        counted = second .counted;
-        post = second .post;
-        slots = second .slots;
-        views = same .1 ∙ second .views;
-        long = second .long ∙ first .long;
-        ends = omega (arith, first .ends, second .ends);
+        right = del-right mid (q .key) mid-right (omega (arith, room-mid));
+        post = cutIn named post;
+        map = one-map mid (q .key) mid-right room-mid mid-map ∙ cut-past (q .key) (q ∷ rest) (below-own q xs b) ∙ ap (λ (m : List Pair). pre ++ m) (cut-here q rest);
+        long = one-long mid (q .key) room-mid ∙ one-long s named (omega arith);
+        ends = omega (arith, one-used mid (q .key), one-used s named);
       }
 
-  pub turn-steps : Steps s pre xs (8 + length (encode (version (w .user) v)) + (8 + length (keyOf (s .log) x))) (appended (appended s (del (encode (version (w .user) v)))) (del (keyOf (s .log) x)))
-  turn-steps = subst (λ (k : List ℕ). Steps s pre xs (8 + length named + (8 + length k)) (appended mid (del k))) (sym (same .0)) both-steps
-
-  pub turn-undone : undoSlot s (length pre) v ≡ appended (appended s (del (encode (version (w .user) v)))) (del (keyOf (s .log) x))
-  unfolding undoSlot
+  pub turn-undone : undoRow s (length pre) v ≡ appended (appended s (del (encode (version (w .user) v)))) (del (q .key))
+  unfolding undoRow
   turn-undone =
-      ap (λ (y : Slot). undoOne s (length pre) v (userIn (keyOf (s .log) y))) (slot-here s g en pre x (xs ++ post) es) ∙ ap (undoOne s (length pre) v) (w .says)
-      ∙ ap (λ (y : State). cutMany 1 y (length pre)) (sym (key-cut s named (omega arith) refl))
-      ∙ own-cut mid (first .agrees) (first .counted) pre x xs (first .post) (first .slots) room-mid
-      ∙ ap (λ (k : List ℕ). appended mid (del k)) (sym (same .0))
+      rw (lt-ltb (length pre) (length (rowsAt s)) (row-here s g pre q (xs ++ post) e))
+      (ap (λ (k : List ℕ). undoOne s (length pre) v (userIn k)) (row-key s g pre q (xs ++ post) e) ∙ ap (undoOne s (length pre) v) (w .says)
+      ∙ ap (λ (y : State). endWhere y (length pre)) (sym (del-done s named (omega arith) refl)) ∙ row-out mid mid-right pre q rest mid-map room-mid)

@@ -12,8 +12,7 @@ use Rattle.bitcask.specs.recovery.Promises.{changedNumber}
 use Rattle.bitcask.specs.change.Append.{appendAnswer}
 use Rattle.mvcc.specs.declared.handle.Handle.{Handle}
 use Rattle.mvcc.specs.handle.Handles.{soundHandle}
-use Rattle.mvcc.specs.request.Ranges.{pairsOf}
-use Rattle.mvcc.specs.request.Looks.{liveIn}
+use Rattle.bitcask.specs.recovery.Map.{pairsOf, liveIn}
 use Rattle.mvcc.specs.request.Checks.{activeKey, openBy}
 use Rattle.mvcc.proofs.append.GrowLaws.{Grows, grows, else-both}
 use Rattle.mvcc.specs.write.Writes.{allowBy, plan}

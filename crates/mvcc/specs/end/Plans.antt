@@ -3,9 +3,10 @@ use Prim.Native.Nat.{ℕ}
 use mathlib.Core.List.{List, [], _∷_, _++_}
 use Rattle.keycode.specs.Tests.{pick}
 use Rattle.bitcask.specs.entry.Entry.{Entry, del}
-use Rattle.bitcask.specs.recovery.Map.{Pair}
+use Rattle.bitcask.specs.recovery.Map.{Pair, pairsOf}
 use Rattle.mvcc.specs.declared.handle.Handle.{Handle}
-use Rattle.mvcc.specs.request.Ranges.{begins, pairsOf, writePrefix}
+use Rattle.mvcc.specs.request.Ranges.{writePrefix}
+use Rattle.bitcask.specs.engine.Prefixes.{begins}
 use Rattle.mvcc.specs.request.Checks.{activeKey}
 use Rattle.mvcc.specs.delete_range.Plans.{cutsOf}
 use Rattle.mvcc.specs.undo.Plans.{undosOf}

@@ -10,9 +10,7 @@ use lib.ListN.{length}
 use Rattle.keycode.specs.Tests.{pick, ifDone}
 use Rattle.keycode.specs.Limits.{maxKey}
 use Rattle.keycode.specs.declared.refusal.Refusal.the-variants.{KeyTooLong}
-use Rattle.bitcask.specs.declared.keydir.slots.Slot.{Slot}
 use Rattle.bitcask.specs.declared.request.Changed.the-variants as Change
-use Rattle.bitcask.specs.recovery.Recover.{recovered}
 use Rattle.bitcask.specs.recovery.Agree.{fit, Agrees}
 use Rattle.bitcask.specs.recovery.Promises.{changedNumber}
 use Rattle.bitcask.specs.declared.append.Check.{Check}
@@ -22,11 +20,12 @@ use Rattle.bitcask.specs.declared.answers.Located.the-variants as Got
 use Rattle.bitcask.specs.read.Promises.{locatedNumber}
 use Rattle.mvcc.specs.declared.handle.Handle.{Handle}
 use Rattle.mvcc.specs.handle.Handles.{soundHandle, blankHandle}
-use Rattle.mvcc.specs.request.Ranges.{keep}
+use Rattle.bitcask.specs.engine.Rows.{Row, rowsIn}
+use Rattle.bitcask.specs.engine.Ranges.{keepRows}
 use Rattle.mvcc.specs.request.Checks.{openBy, admitBy, asked, openIn}
 use Rattle.mvcc.specs.declared.begun.Begun.{Begun}
 use Rattle.mvcc.specs.request.Given.{refusedBy, begunWith}
-use Rattle.mvcc.specs.version.Seen.{lastSeen, locatedSeen, versionTest}
+use Rattle.mvcc.specs.version.Seen.{lastRows, locatedSeen, versionTest}
 
 -- ---- get
 
@@ -35,9 +34,9 @@ checked Check.Fine l = l
 checked (Check.Refused r) l = Got.Refused r
 
 -- 13, 3, 4, and then what the key's versions say: 12 or 1, or the value's place
-unfoldable pub getAnswer : Bool → Bool → Bool → Handle → List ℕ → List ℕ → List Slot → Located
-getAnswer fits sound active h log key range =
-    checked (admitBy fits sound active) (pick (leb (length key) maxKey) (locatedSeen (lastSeen h log range)) (Got.Refused KeyTooLong))
+unfoldable pub getAnswer : Bool → Bool → Bool → Handle → List ℕ → List Row → Located
+getAnswer fits sound active h key range =
+    checked (admitBy fits sound active) (pick (leb (length key) maxKey) (locatedSeen (lastRows h range)) (Got.Refused KeyTooLong))
 
 pub record Gets (log : List ℕ) (used : ℕ) (t : List ℕ) (h : Handle) (key : List ℕ) (r : Located) : Type 0 where
   -- request: 13; 3 always of a handle that no store has open, and never of one that every store has; 4 of the latter
@@ -47,7 +46,7 @@ pub record Gets (log : List ℕ) (used : ℕ) (t : List ℕ) (h : Handle) (key :
   pub long : openBy h false ≡ true → eqb (locatedNumber r) 4 ≡ pick (asked log used t h) (not (leb (length key) maxKey)) false
   -- agreed
   pub answer : Agrees log used t
-      → r ≡ getAnswer (fit (length log) used (length t)) (soundHandle h) (openIn log used h) h log key (keep (versionTest key (h .version)) log (recovered log used))
+      → r ≡ getAnswer (fit (length log) used (length t)) (soundHandle h) (openIn log used h) h key (keepRows (versionTest key (h .version)) (rowsIn log used))
 
 -- ---- resume
 

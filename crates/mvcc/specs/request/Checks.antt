@@ -17,7 +17,7 @@ use Rattle.bitcask.specs.recovery.Recover.{mapOf}
 use Rattle.bitcask.specs.recovery.Agree.{fit}
 use Rattle.mvcc.specs.declared.handle.Handle.{Handle}
 use Rattle.mvcc.specs.handle.Handles.{soundHandle}
-use Rattle.mvcc.specs.request.Looks.{liveIn}
+use Rattle.bitcask.specs.recovery.Map.{liveIn}
 
 -- the key whose record says that a handle's transaction is open
 abbrev pub activeKey : Handle → List ℕ

@@ -8,7 +8,7 @@ use Rattle.bitcask.specs.entry.Entry.{Entry, set, del, entryKey, entryValue}
 use Rattle.bitcask.specs.declared.keydir.slots.Slot.{Slot}
 use Rattle.bitcask.specs.keydir.Slots.{slotWords, slotsOf}
 use Rattle.bitcask.specs.keydir.Place.{All}
-use Rattle.bitcask.specs.recovery.Map.{Pair, after}
+use Rattle.bitcask.specs.recovery.Map.{Pair, after, liveIn}
 use Rattle.bitcask.specs.declared.request.Changed.{Changed}
 use Rattle.bitcask.specs.declared.request.Changed.the-variants as Change
 use Rattle.bitcask.specs.declared.append.Room.{Room}
@@ -16,7 +16,6 @@ use Rattle.bitcask.specs.declared.append.Room.the-variants.{Left}
 use Rattle.bitcask.specs.declared.append.Check.{Check}
 use Rattle.bitcask.specs.declared.append.Check.the-variants.{Fine, Refused}
 use Rattle.bitcask.specs.change.Append.{State, appended, roomAfter, freshIn, judge, sizeAll}
-use Rattle.mvcc.specs.request.Looks.{liveIn}
 use Rattle.mvcc.specs.request.Checks.{onFine, orElse}
 
 -- ---- the store

@@ -1,5 +1,6 @@
--- Bounds of user keys as bounds of Version keys, and the slots that a scan's step reads. Document 01, 'Transactions'. Assumes nothing.
-use Prim.Native.Nat.{ℕ, _-_, _^_, max}
+-- Bounds of user keys as bounds of Version keys, and the rows that a scan's step reads. Document 01, 'Transactions'. Assumes nothing.
+use Prim.Native.Nat.{ℕ, _-_, _^_}
+use mathlib.Core.Path.{_≡_}
 use mathlib.Core.Bool.{Bool, true, false}
 use mathlib.Core.List.{List, [], _∷_}
 use lib.Dec.{leb}
@@ -9,11 +10,15 @@ use Rattle.keycode.specs.Limits.{maxKey}
 use Rattle.keycode.specs.key.Keys.{encode, version}
 use Rattle.keycode.specs.Order.{compareBytes}
 use Rattle.keycode.specs.Prefix.{prefixEnd, searched}
-use Rattle.bitcask.specs.declared.keydir.slots.Slot.{Slot}
+use Rattle.keycode.specs.code.Codes.{Codes}
 use Rattle.bitcask.specs.declared.answers.Bound.{Bound}
 use Rattle.bitcask.specs.declared.answers.Bound.the-variants.{Included, Excluded, Unbounded}
-use Rattle.bitcask.specs.read.Ranks.{admitsLow, lastBound, admitted, fromBound, uptoBound}
-use Rattle.mvcc.specs.request.Ranges.{begins, slice, endBound, endBytes}
+use Rattle.bitcask.specs.read.Ranks.{admitsLow, lastBound, admitted}
+use Rattle.bitcask.specs.engine.Rows.{Row}
+use Rattle.bitcask.specs.engine.Spots.{fromRank}
+use Rattle.bitcask.specs.engine.Prefixes.{begins, endBound, endBytes}
+use Rattle.mvcc.specs.declared.scan.prefix.Upper.{Upper}
+use Rattle.mvcc.specs.walk.Walks.{upFrom}
 
 -- the highest version that a key can have
 abbrev pub lastVersion : ℕ
@@ -59,22 +64,29 @@ highBytes Included k = encode (version k lastVersion)
 highBytes Excluded k = encode (version k 0)
 highBytes Unbounded k = 5 ∷ []
 
--- behind the last version of the last given key
-abbrev pub lastFrom : Bool → List ℕ → List ℕ → List Slot → ℕ
-lastFrom true log last ss = fromBound Excluded log (lowBytes Excluded last) ss
-lastFrom false log last ss = 0
+-- ---- the rows that a step reads
 
--- the slots within two bounds of engine keys and past the last given key
-unfoldable pub pastSlots : Bound → List ℕ → Bound → List ℕ → Bool → List ℕ → List ℕ → List Slot → List Slot
-pastSlots lower low upper high given last log ss = slice (max (fromBound lower log low ss) (lastFrom given log last ss)) (uptoBound upper log high ss) ss
+-- the number of the first: that of the lower bound or, where a last given key does not come before the bound's, that past its versions
+abbrev pub startRank : Bound → List ℕ → Bool → List ℕ → List Row → ℕ
+startRank lower low false last rs = fromRank lower low rs
+startRank lower low true last rs = pick (admitsLow Excluded (compareBytes low (lowBytes Excluded last))) (fromRank lower low rs) (fromRank Excluded (lowBytes Excluded last) rs)
+
+-- within two bounds of engine keys and past the last given key
+unfoldable pub pastRows : Bound → List ℕ → Bound → List ℕ → Bool → List ℕ → List Row → List Row
+pastRows lower low upper high given last rs = upFrom upper high rs (startRank lower low given last rs)
 
 -- within two bounds of user keys
-abbrev pub scanSlots : Bound → List ℕ → Bound → List ℕ → Bool → List ℕ → List ℕ → List Slot → List Slot
-scanSlots lower low upper high given last log ss = pastSlots (lowKind lower) (lowBytes lower low) (highKind upper) (highBytes upper high) given last log ss
+abbrev pub scanRows : Bound → List ℕ → Bound → List ℕ → Bool → List ℕ → List Row → List Row
+scanRows lower low upper high given last rs = pastRows (lowKind lower) (lowBytes lower low) (highKind upper) (highBytes upper high) given last rs
 
 -- from a prefix's code to its end
-abbrev pub prefixSlots : List ℕ → Bool → List ℕ → List ℕ → List Slot → List Slot
-prefixSlots p given last log ss = pastSlots Included (searched p) (endBound (prefixEnd (searched p))) (endBytes (searched p) (prefixEnd (searched p))) given last log ss
+abbrev pub prefixRows : List ℕ → Bool → List ℕ → List Row → List Row
+prefixRows p given last rs = pastRows Included (searched p) (endBound (prefixEnd (searched p))) (endBytes (searched p) (prefixEnd (searched p))) given last rs
+
+-- r is the upper bound of the keys that begin with a prefix
+pub record Uppers (p : List ℕ) (r : Upper) : Type 0 where
+  pub bound : r .bound ≡ endBound (prefixEnd p)
+  pub code : Codes (r .code) (endBytes p (prefixEnd p))
 
 -- ---- the same by a test of each key
 

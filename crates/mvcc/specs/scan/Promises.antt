@@ -8,7 +8,6 @@ use lib.Dec.{eqb}
 use lib.ListN.{length}
 use Rattle.keycode.specs.Tests.{pick}
 use Rattle.keycode.specs.declared.refusal.Refusal.the-variants.{KeyTooLong}
-use Rattle.bitcask.specs.recovery.Recover.{recovered}
 use Rattle.bitcask.specs.recovery.Agree.{fit, Agrees}
 use Rattle.bitcask.specs.declared.append.Check.{Check}
 use Rattle.bitcask.specs.declared.append.Check.the-variants as Check
@@ -16,11 +15,12 @@ use Rattle.bitcask.specs.declared.answers.Bound.{Bound}
 use Rattle.bitcask.specs.declared.answers.Stepped.{Stepped}
 use Rattle.bitcask.specs.declared.answers.Stepped.the-variants as Step
 use Rattle.bitcask.specs.read.Promises.{steppedNumber}
+use Rattle.bitcask.specs.engine.Rows.{rowsIn}
+use Rattle.bitcask.specs.engine.Ranges.{keepRows}
 use Rattle.mvcc.specs.declared.handle.Handle.{Handle}
 use Rattle.mvcc.specs.handle.Handles.{soundHandle}
-use Rattle.mvcc.specs.request.Ranges.{keep}
 use Rattle.mvcc.specs.request.Checks.{openBy, admitBy, asked, openIn}
-use Rattle.mvcc.specs.walk.Walks.{stepIn}
+use Rattle.mvcc.specs.walk.Walks.{stepRows}
 use Rattle.mvcc.specs.scan.Bounds.{keysFit, prefixFits, scanned, prefixed}
 
 abbrev pub checkedStep : Check → Stepped → Stepped
@@ -45,7 +45,7 @@ pub record Scanning (log : List ℕ) (used : ℕ) (t : List ℕ) (h : Handle) (s
   pub long : openBy h false ≡ true → eqb (steppedNumber r) 4 ≡ pick (asked log used t h) (not short) false
   -- agreed
   pub answer : Agrees log used t
-      → r ≡ scanAnswer (fit (length log) used (length t)) (soundHandle h) (openIn log used h) short (stepIn h log (keep test log (recovered log used)))
+      → r ≡ scanAnswer (fit (length log) used (length t)) (soundHandle h) (openIn log used h) short (stepRows h log (keepRows test (rowsIn log used)))
 
 abbrev pub Scans : List ℕ → ℕ → List ℕ → Handle → Bound → List ℕ → Bound → List ℕ → Bool → List ℕ → Stepped → Type 0
 Scans log used t h lower low upper high given last r = Scanning log used t h (keysFit lower low upper high given last) (scanned lower low upper high given last) r

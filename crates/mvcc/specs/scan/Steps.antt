@@ -15,10 +15,6 @@ use Rattle.keycode.specs.Strings.{escapeBody, unescaped}
 use Rattle.keycode.specs.key.Keys.{decodeWhy, forget}
 use Rattle.keycode.specs.declared.parts.Part.{Part}
 use Rattle.keycode.specs.declared.refusal.Refusal.the-variants.{Absent, BadStore}
-use Rattle.keycode.specs.declared.key.Key.{Key}
-use Rattle.keycode.specs.declared.key.Key.the-variants.{NextVersion, TxnActive, TxnActiveSnapshot, TxnWrite, Version, Unversioned}
-use Rattle.keycode.specs.declared.key.Decoded.{Decoded}
-use Rattle.keycode.specs.declared.key.Decoded.the-variants.{Whole, Refused}
 use Rattle.bitcask.specs.recovery.Map.{Pair}
 use Rattle.bitcask.specs.declared.append.Check.{Check}
 use Rattle.bitcask.specs.declared.answers.Stepped.{Stepped}
@@ -28,6 +24,9 @@ use Rattle.mvcc.specs.declared.handle.Handle.{Handle}
 use Rattle.mvcc.specs.handle.Handles.{sees}
 use Rattle.mvcc.specs.payload.Payloads.{valueIn, valueAt}
 use Rattle.mvcc.specs.request.Checks.{checkNumber, onFine}
+use Rattle.mvcc.specs.declared.version.Label.{Label}
+use Rattle.mvcc.specs.declared.version.Label.the-variants as Label
+use Rattle.mvcc.specs.version.Seen.{labelBy}
 use Rattle.mvcc.specs.walk.Walks.{isEqual, partOf}
 
 -- ---- one pair
@@ -37,20 +36,12 @@ pub record Stamp : Type 0 where
   pub user : List ℕ
   pub version : ℕ
 
-abbrev pub stampKey : List ℕ → Key → Option Stamp
-stampKey b NextVersion = none
-stampKey b (TxnActive v) = none
-stampKey b (TxnActiveSnapshot v) = none
-stampKey b (TxnWrite v p) = none
-stampKey b (Version p v) = some (record { user = unescaped (take (p .len) (drop (p .at) b)); version = v })
-stampKey b (Unversioned p) = none
-
-abbrev pub stampBy : List ℕ → Decoded → Option Stamp
-stampBy b (Whole k) = stampKey b k
-stampBy b (Refused r) = none
+abbrev pub stampBy : List ℕ → Label → Option Stamp
+stampBy b Label.None = none
+stampBy b (Label.Of p v) = some (record { user = unescaped (take (p .len) (drop (p .at) b)); version = v })
 
 unfoldable pub stampOf : List ℕ → Option Stamp
-stampOf b = stampBy b (forget (decodeWhy maxKey b))
+stampOf b = stampBy b (labelBy (forget (decodeWhy maxKey b)))
 
 -- a user key and its value
 pub record Given : Type 0 where

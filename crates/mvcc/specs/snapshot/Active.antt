@@ -8,16 +8,19 @@ use lib.ListN.{length, take, drop}
 use Rattle.keycode.specs.Tests.{pick}
 use Rattle.keycode.specs.Number.{num}
 use Rattle.keycode.specs.key.Keys.{encode, nextVersion}
-use Rattle.bitcask.specs.declared.keydir.slots.Slot.{Slot}
-use Rattle.bitcask.specs.keydir.Slots.{keyOf}
-use Rattle.bitcask.specs.recovery.Map.{Pair, lookIn}
+use Rattle.keycode.specs.Prefix.{prefixEnd}
+use Rattle.bitcask.specs.recovery.Map.{Pair, lookIn, pairsOf}
+use Rattle.bitcask.specs.declared.answers.Bound.the-variants.{Included}
+use Rattle.bitcask.specs.engine.Rows.{Row}
+use Rattle.bitcask.specs.engine.Spots.{lookRow, rowValue}
+use Rattle.bitcask.specs.engine.Ranges.{rangeOf}
+use Rattle.bitcask.specs.engine.Prefixes.{begins, endBound, endBytes}
 use Rattle.mvcc.specs.declared.handle.Handle.{Handle}
 use Rattle.mvcc.specs.declared.payload.VersionRead.{VersionRead}
 use Rattle.mvcc.specs.declared.payload.VersionRead.the-variants.{Read, Bad as BadVersion}
 use Rattle.mvcc.specs.handle.Handles.{handleOf, blankHandle, withAll}
 use Rattle.mvcc.specs.payload.Payloads.{versionIn}
-use Rattle.mvcc.specs.request.Looks.{slotOf, slotValue}
-use Rattle.mvcc.specs.request.Ranges.{begins, pairsOf, prefixIn, activePrefix}
+use Rattle.mvcc.specs.request.Ranges.{activePrefix}
 use Rattle.mvcc.specs.declared.snapshot.Seen.{Seen}
 use Rattle.mvcc.specs.declared.snapshot.Tally.the-variants.{Open, Bad}
 
@@ -33,9 +36,9 @@ unfoldable pub nextOf : Option (List ℕ) → VersionRead
 nextOf none = Read 1
 nextOf (some b) = nextBy (versionIn b)
 
--- of slots, and of a map
-unfoldable pub nextIn : List ℕ → List Slot → VersionRead
-nextIn log ss = nextOf (slotValue log (slotOf log (encode nextVersion) ss))
+-- of rows, and of a map
+unfoldable pub nextIn : List Row → VersionRead
+nextIn rs = nextOf (rowValue (lookRow (encode nextVersion) rs))
 
 unfoldable pub nextAt : List Pair → VersionRead
 nextAt m = nextOf (lookIn (encode nextVersion) m)
@@ -56,17 +59,17 @@ unfoldable pub versionsIn : List (List ℕ) → Option (List ℕ)
 versionsIn [] = some []
 versionsIn (k ∷ ks) = consRead (activeIn k) (versionsIn ks)
 
-unfoldable pub keysIn : List ℕ → List Slot → List (List ℕ)
-keysIn log [] = []
-keysIn log (s ∷ ss) = keyOf log s ∷ keysIn log ss
+unfoldable pub keysIn : List Row → List (List ℕ)
+keysIn [] = []
+keysIn (r ∷ rs) = r .key ∷ keysIn rs
 
 unfoldable pub keysOf : List Pair → List (List ℕ)
 keysOf [] = []
 keysOf (q ∷ m) = q .key ∷ keysOf m
 
--- the slots whose keys begin as every TxnActive key does, by numbers
-unfoldable pub activeSlots : List ℕ → List Slot → List Slot
-activeSlots log ss = prefixIn activePrefix log ss
+-- the rows whose keys begin as every TxnActive key does, by ranks
+unfoldable pub activeRows : List Row → List Row
+activeRows rs = rangeOf Included activePrefix (endBound (prefixEnd activePrefix)) (endBytes activePrefix (prefixEnd activePrefix)) rs
 
 -- the keys of a map that begin so
 unfoldable pub activeKeys : List Pair → List (List ℕ)

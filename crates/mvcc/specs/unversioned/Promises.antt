@@ -4,6 +4,7 @@
 use Prim.Native.Nat.{ℕ, _+_}
 use mathlib.Core.Path.{_≡_}
 use mathlib.Core.Bool.{Bool, false, not}
+use mathlib.Core.Option.{Option, none, some}
 use mathlib.Core.List.{List, [], _∷_}
 use lib.Dec.{leb, eqb}
 use lib.ListN.{length}
@@ -14,35 +15,34 @@ use Rattle.keycode.specs.key.Keys.{encode, unversioned}
 use Rattle.bitcask.specs.entry.Entry.{Entry, set}
 use Rattle.bitcask.specs.declared.request.Changed.{Changed}
 use Rattle.bitcask.specs.declared.request.Changed.the-variants.{Refused}
-use Rattle.bitcask.specs.recovery.Recover.{recovered}
 use Rattle.bitcask.specs.recovery.Agree.{fit, Agrees}
 use Rattle.bitcask.specs.recovery.Promises.{changedNumber}
 use Rattle.bitcask.specs.change.Append.{sizeAll, appendAnswer}
 use Rattle.bitcask.specs.declared.answers.Located.{Located}
 use Rattle.bitcask.specs.declared.answers.Located.the-variants as Got
-use Rattle.bitcask.specs.read.Promises.{locatedNumber, valuePart}
-use Rattle.mvcc.specs.declared.lookup.Slotted.{Slotted}
-use Rattle.mvcc.specs.declared.lookup.Slotted.the-variants as Slots
-use Rattle.mvcc.specs.request.Looks.{slotIn}
+use Rattle.bitcask.specs.read.Promises.{locatedNumber}
+use Rattle.bitcask.specs.engine.Rows.{Row, valuePlace, rowsIn}
+use Rattle.bitcask.specs.engine.Spots.{lookRow}
 use Rattle.mvcc.specs.request.Checks.{orElse}
 use Rattle.mvcc.specs.append.Lays.{sizesBy, Leaves}
 
 -- ---- get
 
-abbrev pub slotLocated : Slotted → Located
-slotLocated (Slots.At s) = Got.At (valuePart s)
-slotLocated Slots.None = Got.Refused Absent
+-- the place of a row's value, or 1
+abbrev pub rowLocated : Option Row → Located
+rowLocated (some r) = Got.At (valuePlace r)
+rowLocated none = Got.Refused Absent
 
--- 13, 4, and then the place of the key's value, or 1
-unfoldable pub unversionedAnswer : Bool → List ℕ → Slotted → Located
-unversionedAnswer fits key s = pick fits (pick (leb (length key) maxKey) (slotLocated s) (Got.Refused KeyTooLong)) (Got.Refused BadRequest)
+-- 13, 4, and then what the key's row says
+unfoldable pub unversionedAnswer : Bool → List ℕ → Option Row → Located
+unversionedAnswer fits key o = pick fits (pick (leb (length key) maxKey) (rowLocated o) (Got.Refused KeyTooLong)) (Got.Refused BadRequest)
 
 pub record GetsUnversioned (log : List ℕ) (used : ℕ) (t key : List ℕ) (r : Located) : Type 0 where
   -- request
   pub bad : eqb (locatedNumber r) 13 ≡ not (fit (length log) used (length t))
   pub long : eqb (locatedNumber r) 4 ≡ pick (fit (length log) used (length t)) (not (leb (length key) maxKey)) false
   -- agreed
-  pub answer : Agrees log used t → r ≡ unversionedAnswer (fit (length log) used (length t)) key (slotIn log (encode (unversioned key)) (recovered log used))
+  pub answer : Agrees log used t → r ≡ unversionedAnswer (fit (length log) used (length t)) key (lookRow (encode (unversioned key)) (rowsIn log used))
 
 -- ---- set
 

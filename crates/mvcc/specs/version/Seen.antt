@@ -1,4 +1,4 @@
--- What the records of a key say to a handle, of slots by the places of their values, and of the map's pairs by the values themselves.
+-- What records say to a handle: of rows by the places of their keys and values, and of the map's pairs by the values themselves.
 -- Document 01, 'Transactions'. Assumes nothing.
 use Prim.Native.Nat.{ℕ, _+_, _-_}
 use mathlib.Core.Bool.{Bool}
@@ -13,13 +13,14 @@ use Rattle.keycode.specs.declared.key.Key.{Key}
 use Rattle.keycode.specs.declared.key.Key.the-variants.{NextVersion, TxnActive, TxnActiveSnapshot, TxnWrite, Version, Unversioned}
 use Rattle.keycode.specs.declared.key.Decoded.{Decoded}
 use Rattle.keycode.specs.declared.key.Decoded.the-variants.{Whole, Refused}
-use Rattle.bitcask.specs.declared.keydir.slots.Slot.{Slot}
-use Rattle.bitcask.specs.keydir.Slots.{keyOf, valueOf}
 use Rattle.bitcask.specs.recovery.Map.{Pair}
 use Rattle.bitcask.specs.declared.answers.Bound.the-variants.{Included}
 use Rattle.bitcask.specs.declared.answers.Located.{Located}
 use Rattle.bitcask.specs.declared.answers.Located.the-variants as Got
-use Rattle.bitcask.specs.read.Promises.{valuePart}
+use Rattle.bitcask.specs.engine.Rows.{Row, keyPlace, valuePlace}
+use Rattle.bitcask.specs.engine.Spots.{uptoRank}
+use Rattle.bitcask.specs.engine.Ranges.{inside}
+use Rattle.bitcask.specs.engine.Walks.{downFrom}
 use Rattle.mvcc.specs.declared.handle.Handle.{Handle}
 use Rattle.mvcc.specs.declared.payload.VersionRead.{VersionRead}
 use Rattle.mvcc.specs.declared.payload.VersionRead.the-variants.{Read, Bad as NoVersion}
@@ -27,44 +28,71 @@ use Rattle.mvcc.specs.declared.payload.ValueRead.{ValueRead}
 use Rattle.mvcc.specs.declared.payload.ValueRead.the-variants as Payload
 use Rattle.mvcc.specs.handle.Handles.{sees}
 use Rattle.mvcc.specs.payload.Payloads.{valueIn, valueAt}
-use Rattle.mvcc.specs.request.Ranges.{inside, rangeIn}
+use Rattle.mvcc.specs.declared.version.Label.{Label}
+use Rattle.mvcc.specs.declared.version.Label.the-variants as Label
+use Rattle.mvcc.specs.declared.version.Record.{Record}
+use Rattle.mvcc.specs.declared.version.Record.the-variants.{Junk, Good}
 use Rattle.mvcc.specs.declared.version.Seen.{Seen}
 use Rattle.mvcc.specs.declared.version.Seen.the-variants.{Hidden, Gone, Bad, Value}
 
 -- ---- one record
 
--- the version of a Version key
-abbrev pub versionKey : Key → VersionRead
-versionKey NextVersion = NoVersion
-versionKey (TxnActive v) = NoVersion
-versionKey (TxnActiveSnapshot v) = NoVersion
-versionKey (TxnWrite v p) = NoVersion
-versionKey (Version p v) = Read v
-versionKey (Unversioned p) = NoVersion
+-- a key's string and version, where it is a Version key
+abbrev pub labelKey : Key → Label
+labelKey NextVersion = Label.None
+labelKey (TxnActive v) = Label.None
+labelKey (TxnActiveSnapshot v) = Label.None
+labelKey (TxnWrite v p) = Label.None
+labelKey (Version p v) = Label.Of p v
+labelKey (Unversioned p) = Label.None
+
+abbrev pub labelBy : Decoded → Label
+labelBy (Whole k) = labelKey k
+labelBy (Refused r) = Label.None
+
+-- the version alone
+abbrev pub versionIn : Label → VersionRead
+versionIn Label.None = NoVersion
+versionIn (Label.Of p v) = Read v
 
 abbrev pub versionOf : Decoded → VersionRead
-versionOf (Whole k) = versionKey k
-versionOf (Refused r) = NoVersion
+versionOf d = versionIn (labelBy d)
 
 -- a part without its first bytes
 abbrev pub behindPart : Part → ℕ → Part
 behindPart p skip = record { at = p .at + skip; len = p .len - skip }
+
+-- the place of a key's string, which stands behind the tag, its closing 00 00 not counted
+abbrev pub stringPart : Part → ℕ → Part
+stringPart p n = record { at = p .at + 1; len = n }
 
 abbrev pub saysBy : Part → ValueRead → Seen
 saysBy p (Payload.Value skip) = Value (behindPart p skip)
 saysBy p Payload.Gone = Gone
 saysBy p Payload.Bad = Bad
 
-unfoldable pub valueSays : List ℕ → Slot → Seen
-valueSays log s = saysBy (valuePart s) (valueIn (valueOf log s))
+unfoldable pub rowSays : Row → Seen
+rowSays r = saysBy (valuePlace r) (valueIn (r .value))
+
+-- a payload counts where the handle sees its version
+abbrev pub seenAs : Handle → Seen → ℕ → Seen
+seenAs h i v = pick (sees h v) i Hidden
 
 -- a key that does not decode, then a version that is not seen, then the payload
 abbrev pub seenBy : Handle → Seen → VersionRead → Seen
 seenBy h i NoVersion = Bad
-seenBy h i (Read v) = pick (sees h v) i Hidden
+seenBy h i (Read v) = seenAs h i v
 
-unfoldable pub seenIn : Handle → List ℕ → Slot → Seen
-seenIn h log s = seenBy h (valueSays log s) (versionOf (forget (decodeWhy maxKey (keyOf log s))))
+unfoldable pub seenRow : Handle → Row → Seen
+seenRow h r = seenBy h (rowSays r) (versionOf (forget (decodeWhy maxKey (r .key))))
+
+-- the same with the place of the user key
+abbrev pub recordBy : Handle → Row → Label → Record
+recordBy h r Label.None = Junk
+recordBy h r (Label.Of p v) = Good (stringPart (keyPlace r) (p .len)) (seenAs h (rowSays r) v)
+
+unfoldable pub recordRow : Handle → Row → Record
+recordRow h r = recordBy h r (labelBy (forget (decodeWhy maxKey (r .key))))
 
 -- ---- the last that decides
 
@@ -74,9 +102,9 @@ orElse Gone t = Gone
 orElse Bad t = Bad
 orElse (Value p) t = Value p
 
-unfoldable pub lastSeen : Handle → List ℕ → List Slot → Seen
-lastSeen h log [] = Hidden
-lastSeen h log (s ∷ ss) = orElse (lastSeen h log ss) (seenIn h log s)
+unfoldable pub lastRows : Handle → List Row → Seen
+lastRows h [] = Hidden
+lastRows h (r ∷ rs) = orElse (lastRows h rs) (seenRow h r)
 
 -- the answer that it is: 1 where none decides
 abbrev pub locatedSeen : Seen → Located
@@ -90,8 +118,9 @@ locatedSeen (Value p) = Got.At p
 abbrev pub versionTest : List ℕ → ℕ → List ℕ → Bool
 versionTest key v = inside Included (encode (version key 0)) Included (encode (version key v))
 
-abbrev pub versionSlots : List ℕ → ℕ → List ℕ → List Slot → List Slot
-versionSlots key v log ss = rangeIn Included (encode (version key 0)) Included (encode (version key v)) log ss
+-- by one search and a walk down
+unfoldable pub versionRows : List ℕ → ℕ → List Row → List Row
+versionRows key v rs = downFrom Included (encode (version key 0)) rs (uptoRank Included (encode (version key v)) rs)
 
 -- ---- the same of pairs: none where no record decides; else what the payload holds
 

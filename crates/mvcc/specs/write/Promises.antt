@@ -17,8 +17,7 @@ use Rattle.bitcask.specs.recovery.Promises.{changedNumber}
 use Rattle.bitcask.specs.change.Append.{appendAnswer}
 use Rattle.mvcc.specs.declared.handle.Handle.{Handle}
 use Rattle.mvcc.specs.handle.Handles.{soundHandle}
-use Rattle.mvcc.specs.request.Ranges.{pairsOf}
-use Rattle.mvcc.specs.request.Looks.{liveIn}
+use Rattle.bitcask.specs.recovery.Map.{pairsOf, liveIn}
 use Rattle.mvcc.specs.request.Checks.{activeKey, ownVersion, openBy, orElse}
 use Rattle.mvcc.specs.append.Lays.{Leaves}
 use Rattle.mvcc.specs.write.Writes.{allowBy, plan}

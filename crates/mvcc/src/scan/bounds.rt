@@ -1,23 +1,27 @@
 // Bounds of user keys as bounds of Version keys, and a scan's step between them.
 use crate::handle::Handle;
-use crate::walk::step_in;
+use crate::walk::step_from;
 use bitcask::Bound;
 use bitcask::Stepped;
-use bitcask::rank::from_bound;
-use bitcask::rank::upto_bound;
+use bitcask::engine::Mark;
+use bitcask::engine::Spot;
+use bitcask::engine::spot::first;
+use keycode::Order;
 use keycode::code::Code;
 use keycode::code::version_code;
+use keycode::compare;
 use keycode::limits::KEY_BYTES;
 ghost use mathlib.Core.Path.{_≡_};
 ghost use mathlib.Core.Bool.{true};
-ghost use Prim.Native.Nat.{_*_, _≤_, max};
-ghost use lib.ListN.{length};
-ghost use Rattle.bitcask.specs.keydir.Slots.{slotWords, slotsOf};
-ghost use Rattle.bitcask.specs.read.Ranks.{fromBound, uptoBound};
+ghost use Rattle.keycode.specs.Order.{compareBytes};
 ghost use Rattle.keycode.specs.code.Codes.{Codes};
-ghost use Rattle.mvcc.specs.request.Ranges.{slice};
-ghost use Rattle.mvcc.specs.walk.Walks.{stepIn};
-ghost use Rattle.mvcc.specs.scan.Bounds.{keyFits, lastFits, keysFit, lowKind, lowBytes, highKind, highBytes, lastFrom, scanSlots};
+ghost use Rattle.bitcask.specs.declared.answers.Bound.the-variants.{Excluded};
+ghost use Rattle.bitcask.specs.read.Ranks.{admitsLow};
+ghost use Rattle.bitcask.specs.engine.Marks.{Held};
+ghost use Rattle.bitcask.specs.engine.Rows.{rows};
+ghost use Rattle.bitcask.specs.engine.Spots.{rank};
+ghost use Rattle.mvcc.specs.walk.Walks.{stepRows};
+ghost use Rattle.mvcc.specs.scan.Bounds.{keyFits, lastFits, keysFit, lowKind, lowBytes, highKind, highBytes, startRank, pastRows, scanRows};
 
 // The highest version that a key can have.
 const LAST_VERSION: u64 = 0xffff_ffff_ffff_ffff;
@@ -67,69 +71,48 @@ fn high_code(upper: Bound, high: &[u8]) -> Code
     }
 }
 
-// The number of the first slot that a lower bound admits.
-fn from_low(log: &[u8], table: &[u32], count: usize, lower: Bound, low: &[u8]) -> usize
-    requires { ⌜ (slotWords * count ≤ length (now table)) × (keyFits lower (now low) ≡ true) ⌝ }
-    ensures { λ r. ⌜ r ≡ fromBound (lowKind lower) (now (log .entry)) (lowBytes lower (now (low .entry))) (slotsOf count (now (table .entry))) ⌝ }
+// Whether a key comes behind another.
+fn follows(key: &[u8], other: &[u8]) -> bool
+    ensures { λ r. ⌜ r ≡ admitsLow Excluded (compareBytes (now (key .entry)) (now (other .entry))) ⌝ }
 {
-    let code = low_code(lower, low);
-    let bytes = code.bytes;
-    let n = code.len;
-    from_bound(log, table, count, low_kind(lower), &bytes[..n])
-}
-
-// The number past the last slot that an upper bound admits.
-fn upto_high(log: &[u8], table: &[u32], count: usize, upper: Bound, high: &[u8]) -> usize
-    requires { ⌜ (slotWords * count ≤ length (now table)) × (keyFits upper (now high) ≡ true) ⌝ }
-    ensures { λ r. ⌜ (r ≡ uptoBound (highKind upper) (now (log .entry)) (highBytes upper (now (high .entry))) (slotsOf count (now (table .entry)))) × (r ≤ count) ⌝ }
-{
-    let code = high_code(upper, high);
-    let bytes = code.bytes;
-    let n = code.len;
-    upto_bound(log, table, count, high_kind(upper), &bytes[..n])
-}
-
-// The number of the first slot past the versions of the last given key.
-fn from_last(log: &[u8], table: &[u32], count: usize, given: bool, last: &[u8]) -> usize
-    requires { ⌜ (slotWords * count ≤ length (now table)) × (lastFits given (now last) ≡ true) ⌝ }
-    ensures { λ r. ⌜ r ≡ lastFrom given (now (log .entry)) (now (last .entry)) (slotsOf count (now (table .entry))) ⌝ }
-{
-    if given {
-        from_low(log, table, count, Bound::Excluded, last)
-    } else {
-        0
+    match compare(key, other) {
+        Order::Less => false,
+        Order::Equal => false,
+        Order::Greater => true,
     }
 }
 
-fn most(a: usize, b: usize) -> usize
-    ensures { λ r. ⌜ r ≡ max a b ⌝ }
+// Where a step starts: at the first row that the lower bound admits or, where that comes later, past the versions of the last given key.
+// Which comes later the two keys tell, so that one search will do.
+fn start(
+    log: &[u8],
+    table: &[u32],
+    mark: Mark,
+    lower: Bound,
+    low: &[u8],
+    given: bool,
+    last: &[u8],
+) -> Spot
+    requires { ⌜ (Held (now log) (now table) mark) × (lastFits given (now last) ≡ true) ⌝ }
+    ensures { λ r. ⌜ rank r (rows (now (log .entry)) (now (table .entry)) mark) ≡ startRank lower (now (low .entry)) given (now (last .entry)) (rows (now (log .entry)) (now (table .entry)) mark) ⌝ }
 {
-    if a < b { b } else { a }
+    if !given {
+        return first(log, table, mark, lower, low);
+    }
+    let code = low_code(Bound::Excluded, last);
+    let bytes = code.bytes;
+    let n = code.len;
+    if follows(low, &bytes[..n]) {
+        return first(log, table, mark, lower, low);
+    }
+    first(log, table, mark, Bound::Excluded, &bytes[..n])
 }
 
-// The step over the slots from number `from` on, or from past the last given key where that lies later, to `to`.
+// The step over the rows within two bounds of engine keys and past the last given key.
 pub(crate) fn step_past(
     log: &[u8],
     table: &[u32],
-    count: usize,
-    handle: Handle,
-    from: usize,
-    to: usize,
-    given: bool,
-    last: &[u8],
-) -> Stepped
-    requires { ⌜ (slotWords * count ≤ length (now table)) × ((to ≤ count) × (lastFits given (now last) ≡ true)) ⌝ }
-    ensures { λ r. ⌜ r ≡ stepIn handle (now (log .entry)) (slice (max from (lastFrom given (now (log .entry)) (now (last .entry)) (slotsOf count (now (table .entry))))) to (slotsOf count (now (table .entry)))) ⌝ }
-{
-    let past = from_last(log, table, count, given, last);
-    step_in(log, table, count, most(from, past), to, handle)
-}
-
-// The step over the slots within the bounds and past the last given key.
-pub(crate) fn step_between(
-    log: &[u8],
-    table: &[u32],
-    count: usize,
+    mark: Mark,
     handle: Handle,
     lower: Bound,
     low: &[u8],
@@ -138,10 +121,47 @@ pub(crate) fn step_between(
     given: bool,
     last: &[u8],
 ) -> Stepped
-    requires { ⌜ (slotWords * count ≤ length (now table)) × (keysFit lower (now low) upper (now high) given (now last) ≡ true) ⌝ }
-    ensures { λ r. ⌜ r ≡ stepIn handle (now (log .entry)) (scanSlots lower (now (low .entry)) upper (now (high .entry)) given (now (last .entry)) (now (log .entry)) (slotsOf count (now (table .entry)))) ⌝ }
+    requires { ⌜ (Held (now log) (now table) mark) × (lastFits given (now last) ≡ true) ⌝ }
+    ensures { λ r. ⌜ r
+        ≡ stepRows handle (now (log .entry)) (pastRows lower (now (low .entry)) upper (now (high .entry)) given (now (last .entry)) (rows (now (log .entry)) (now (table .entry)) mark)) ⌝ }
 {
-    let from = from_low(log, table, count, lower, low);
-    let to = upto_high(log, table, count, upper, high);
-    step_past(log, table, count, handle, from, to, given, last)
+    let from = start(log, table, mark, lower, low, given, last);
+    step_from(log, table, mark, from, upper, high, handle)
+}
+
+// The step over the rows within two bounds of user keys and past the last given key.
+pub(crate) fn step_between(
+    log: &[u8],
+    table: &[u32],
+    mark: Mark,
+    handle: Handle,
+    lower: Bound,
+    low: &[u8],
+    upper: Bound,
+    high: &[u8],
+    given: bool,
+    last: &[u8],
+) -> Stepped
+    requires { ⌜ (Held (now log) (now table) mark) × (keysFit lower (now low) upper (now high) given (now last) ≡ true) ⌝ }
+    ensures { λ r. ⌜ r
+        ≡ stepRows handle (now (log .entry)) (scanRows lower (now (low .entry)) upper (now (high .entry)) given (now (last .entry)) (rows (now (log .entry)) (now (table .entry)) mark)) ⌝ }
+{
+    let a = low_code(lower, low);
+    let from = a.bytes;
+    let n = a.len;
+    let b = high_code(upper, high);
+    let to = b.bytes;
+    let k = b.len;
+    step_past(
+        log,
+        table,
+        mark,
+        handle,
+        low_kind(lower),
+        &from[..n],
+        high_kind(upper),
+        &to[..k],
+        given,
+        last,
+    )
 }

@@ -4,9 +4,8 @@ use crate::append::size::sized;
 use bitcask::Changed;
 use bitcask::Used;
 use bitcask::append::Check;
-use bitcask::keydir::count;
-use bitcask::request::fits;
-use keycode::Refusal;
+use bitcask::engine::Entered;
+use bitcask::engine::enter;
 use keycode::code::unversioned_code;
 ghost use Rattle.mvcc.specs.unversioned.Promises.{SetsPlain};
 
@@ -19,18 +18,16 @@ pub fn set_unversioned(
 ) -> Changed
     ensures { λ r. ⌜ SetsPlain (now (log .entry)) (used .len) (now (table .entry)) (now (key .entry)) (now (value .entry)) r (now (log .exit)) (now (table .exit)) ⌝ }
 {
-    let at = used.len;
-    if !fits(log.len(), at, table.len()) {
-        return Changed::Refused(Refusal::BadRequest);
-    }
-    match sized(key.len(), value.len()) {
-        Check::Refused(r) => Changed::Refused(r),
-        Check::Fine => {
-            let n = count(table);
-            let code = unversioned_code(key);
-            let bytes = code.bytes;
-            let len = code.len;
-            append_one(log, at, table, n, &bytes[..len], value)
-        }
+    match enter(log, used, table) {
+        Entered::Refused(r) => Changed::Refused(r),
+        Entered::In(mark) => match sized(key.len(), value.len()) {
+            Check::Refused(r) => Changed::Refused(r),
+            Check::Fine => {
+                let code = unversioned_code(key);
+                let bytes = code.bytes;
+                let len = code.len;
+                append_one(log, table, mark, &bytes[..len], value)
+            }
+        },
     }
 }

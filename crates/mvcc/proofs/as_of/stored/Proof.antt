@@ -1,21 +1,28 @@
 -- `stored` looks the snapshot up.
 use mathlib.Core.Path.{sym}
 use lib.Seq.{length-take-le}
-use Rattle.bitcask.specs.keydir.Slots.{slotsOf}
+use Rattle.bitcask.specs.engine.Rows.{rows}
+use Rattle.bitcask.proofs.engine.LookLaws.{found-stands}
 use Rattle.mvcc.proofs.as_of.PastLaws.{stored-none, stored-some}
-use borrow.Author.Needs.{needs}
 use native.Mathlib.Omega.{arith}
+use borrow.Author.Needs.{needs}
 use Rattle.mvcc.proofs.as_of.stored.Statement.{statement}
 use Rattle.mvcc.proofs.as_of.stored.Tie as tie
 
-slice-aggregate-slot-of : tie.Need-slice-aggregate-slot-of
-slice-aggregate-slot-of c = let w = c .before .before .snapshot-code .ensures in sym (length-take-le _ _ (omega (arith, w .whole, w .within)))
+array-share-prefix-bytes : tie.Need-array-share-prefix-bytes
+array-share-prefix-bytes c = let w = c .before .snapshot-code .ensures in omega (arith, w .whole, w .within)
+
+slice-aggregate-find : tie.Need-slice-aggregate-find
+slice-aggregate-find c = let w = c .before .before .snapshot-code .ensures in sym (length-take-le _ _ (omega (arith, w .whole, w .within)))
+
+value-at-requires : tie.Need-value-at-requires
+value-at-requires c κs = (c .before .before .before .before .before .before .before .before .before .before .pre, found-stands _ _ (c .before .before .before .find .ensures) _ (c .before .p .given .1))
 
 returns : tie.Need-returns
-returns c = let a = c .before .before .before .before .before .before .before .before .before .args in stored-none (a .log .now) (slotsOf (a .count) (a .table .now)) (a .version) (c .before .before .before .before .before .snapshot-code .ensures) (c .before .before .slot-of .ensures) (c .before .before .before .before .before .before .fresh .ensures) (c .enum-told .given .1)
+returns c = let a = c .before .before .before .before .before .before .before .before .before .args in stored-none (rows (a .log .now) (a .table .now) (a .mark)) (a .version) (c .before .before .before .before .before .snapshot-code .ensures) _ (c .before .before .find .ensures) (c .before .before .before .before .before .before .fresh .ensures) _ (c .enum-told .given .1)
 
 returns-2 : tie.Need-returns-2
-returns-2 c = let a = c .before .before .before .before .before .before .before .before .before .before .before .before .args in stored-some (a .log .now) (slotsOf (a .count) (a .table .now)) (a .version) (c .before .before .before .before .before .before .before .before .snapshot-code .ensures) (c .before .before .before .before .before .slot-of .ensures) (c .before .before .before .before .before .before .before .before .before .fresh .ensures) _ (c .before .before .before .s .given .1) (c .before .value-of .ensures) (c .read-set .ensures)
+returns-2 c = let a = c .before .before .before .before .before .before .before .before .before .before .before .before .args in stored-some (rows (a .log .now) (a .table .now) (a .mark)) (a .version) (c .before .before .before .before .before .before .before .before .snapshot-code .ensures) _ (c .before .before .before .before .before .find .ensures) (c .before .before .before .before .before .before .before .before .before .fresh .ensures) _ (c .before .before .before .p .given .1) (c .before .value-at .ensures) (c .read-set .ensures)
 
 pub stored-spec : {M : Type 1} → statement M
 stored-spec =
@@ -23,12 +30,12 @@ stored-spec =
     (tie.spec
     (λ c κs. search needs)
     (λ c κs. search needs)
-    (λ c. search needs)
-    slice-aggregate-slot-of
+    array-share-prefix-bytes
+    slice-aggregate-find
     (λ c κs. search needs)
     (λ c. search needs)
     (λ c. search needs)
-    (λ c κs. search needs)
+    value-at-requires
     (λ c κs. search needs)
     returns
     returns-2)

@@ -1,49 +1,74 @@
--- `search`: the range by its two codes, and the key of its last slot.
+-- `search`: where the versions of the key end, and the key of the row before.
 use mathlib.Core.Path.{sym}
 use lib.Seq.{length-take-le}
-use Rattle.mvcc.proofs.conflict.SearchLaws.{search-none, search-last}
-use borrow.Author.Needs.{needs}
 use native.Mathlib.Omega.{arith}
+use Rattle.bitcask.specs.engine.Rows.{rows}
+use Rattle.mvcc.proofs.conflict.SearchLaws.{end-within, search-none, search-stands, search-last}
+use borrow.Author.Needs.{needs}
 use Rattle.mvcc.proofs.conflict.search.Statement.{statement}
 use Rattle.mvcc.proofs.conflict.search.Tie as tie
 
-slice-aggregate-range : tie.Need-slice-aggregate-range
-slice-aggregate-range c = let w = c .before .before .before .before .version-code .ensures in sym (length-take-le _ _ (omega (arith, w .whole, w .within)))
+version-code-requires : tie.Need-version-code-requires
+version-code-requires c κs = search needs
 
-slice-aggregate-range-2 : tie.Need-slice-aggregate-range-2
-slice-aggregate-range-2 c = let w = c .before .before .before .version-code2 .ensures in sym (length-take-le _ _ (omega (arith, w .whole, w .within)))
+array-share-prefix-high-bytes : tie.Need-array-share-prefix-high-bytes
+array-share-prefix-high-bytes c = search needs
+
+slice-aggregate-past : tie.Need-slice-aggregate-past
+slice-aggregate-past c = let w = c .before .before .version-code .ensures in sym (length-take-le _ _ (omega (arith, w .whole, w .within)))
+
+past-requires : tie.Need-past-requires
+past-requires c κs = search needs
+
+lowest-requires : tie.Need-lowest-requires
+lowest-requires c κs = search needs
+
+version-code-requires-2 : tie.Need-version-code-requires-2
+version-code-requires-2 c κs = search needs
+
+array-share-prefix-low-bytes : tie.Need-array-share-prefix-low-bytes
+array-share-prefix-low-bytes c = search needs
+
+slice-aggregate-row-before : tie.Need-slice-aggregate-row-before
+slice-aggregate-row-before c = let w = c .before .before .version-code2 .ensures in sym (length-take-le _ _ (omega (arith, w .whole, w .within)))
+
+row-before-requires : tie.Need-row-before-requires
+row-before-requires c κs = let a = c .before .before .before .before .before .before .before .before .before .before .before .args in (c .before .before .before .before .before .before .before .before .before .before .before .pre .0, end-within (rows (a .log .now) (a .table .now) (a .mark)) (c .before .before .before .before .before .before .before .version-code .result) (c .before .before .before .before .past .ensures))
+
+enum-told : tie.Need-enum-told
+enum-told c = search needs
+
+enum-known-p : tie.Need-enum-known-p
+enum-known-p c = search needs
+
+key-at-requires : tie.Need-key-at-requires
+key-at-requires c κs = let a = c .before .before .before .before .before .before .before .before .before .before .before .before .before .before .before .args in (c .before .before .before .before .before .before .before .before .before .before .before .before .before .before .before .pre .0, search-stands (rows (a .log .now) (a .table .now) (a .mark)) (a .handle) (a .key .now) (c .before .before .before .before .before .before .before .before .before .before .before .version-code .ensures) (c .before .before .before .before .before .before .before .before .past .ensures) (c .before .before .before .before .before .before .before .lowest .ensures) (c .before .before .before .before .before .before .version-code2 .ensures) _ (c .before .before .before .row-before .ensures) _ (c .before .p .given .1))
+
+met-requires : tie.Need-met-requires
+met-requires c κs = search needs
 
 returns : tie.Need-returns
-returns c =
-    let a = c .before .before .before .before .before .before .before .before .before .before .before .before .before .args in
-    search-none (a .log .now) (a .key .now) (a .table .now) (a .count) (a .handle) _ (c .before .before .before .before .before .before .before .before .before .lowest .ensures) _ _ (c .before .before .before .before .before .before .before .before .version-code .ensures) (c .before .before .before .before .before .before .version-code2 .ensures) _ (c .before .before .range .ensures) (c .if1 .taken)
-
-sub-slot-at : tie.Need-sub-slot-at
-sub-slot-at c = omega arith
-
-slot-at-requires : tie.Need-slot-at-requires
-slot-at-requires c κs = omega (arith, c .before .before .range .ensures .within .1, c .before .before .before .before .before .before .before .before .before .before .before .before .before .pre .0)
+returns c = let a = c .before .before .before .before .before .before .before .before .before .before .before .before .before .before .args in search-none (rows (a .log .now) (a .table .now) (a .mark)) (a .handle) (a .key .now) (c .before .before .before .before .before .before .before .before .before .before .version-code .ensures) (c .before .before .before .before .before .before .before .past .ensures) (c .before .before .before .before .before .before .lowest .ensures) (c .before .before .before .before .before .version-code2 .ensures) _ (c .before .before .row-before .ensures) (c .enum-told .given .1)
 
 returns-2 : tie.Need-returns-2
-returns-2 c =
-    let a = c .before .before .before .before .before .before .before .before .before .before .before .before .before .before .before .before .args in
-    search-last (a .log .now) (a .key .now) (a .table .now) (a .count) (a .handle) _ (c .before .before .before .before .before .before .before .before .before .before .before .before .lowest .ensures) _ _ (c .before .before .before .before .before .before .before .before .before .before .before .version-code .ensures) (c .before .before .before .before .before .before .before .before .before .version-code2 .ensures) _ (c .before .before .before .before .before .range .ensures) (omega (arith, c .before .before .before .if1 .left)) _ (c .before .before .slot-at .ensures) _ (c .before .key-of .ensures) _ (c .seen-bytes .ensures)
+returns-2 c = let a = c .before .before .before .before .before .before .before .before .before .before .before .before .before .before .before .before .before .args in search-last (rows (a .log .now) (a .table .now) (a .mark)) (a .handle) (a .key .now) (c .before .before .before .before .before .before .before .before .before .before .before .before .before .version-code .ensures) (c .before .before .before .before .before .before .before .before .before .before .past .ensures) (c .before .before .before .before .before .before .before .before .before .lowest .ensures) (c .before .before .before .before .before .before .before .before .version-code2 .ensures) _ (c .before .before .before .before .before .row-before .ensures) _ (c .before .before .before .p .given .1) (c .before .key-at .ensures) (c .met .ensures)
 
 pub search-spec : {M : Type 1} → statement M
 search-spec =
     tie.close
     (tie.spec
-    (λ c κs. search needs)
-    (λ c κs. search needs)
-    (λ c κs. search needs)
-    (λ c. search needs)
-    slice-aggregate-range
-    (λ c. search needs)
-    slice-aggregate-range-2
-    (λ c κs. search needs)
+    version-code-requires
+    array-share-prefix-high-bytes
+    slice-aggregate-past
+    past-requires
+    lowest-requires
+    version-code-requires-2
+    array-share-prefix-low-bytes
+    slice-aggregate-row-before
+    row-before-requires
+    enum-told
+    enum-known-p
+    key-at-requires
+    met-requires
     returns
-    sub-slot-at
-    slot-at-requires
-    (λ c κs. search needs)
-    (λ c κs. search needs)
     returns-2)

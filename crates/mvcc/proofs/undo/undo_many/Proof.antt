@@ -1,42 +1,41 @@
--- `undo_many` undoes slot by slot.
-use Rattle.mvcc.specs.request.Lists.{stateOf}
-use Rattle.mvcc.proofs.undo.UndoStepLaws.{Undoing, undo-start, undo-out, undo-next, undo-end}
+-- `undo_many` undoes row by row.
 use native.Mathlib.Omega.{arith}
+use Rattle.bitcask.specs.engine.Rows.{rows}
+use Rattle.bitcask.specs.engine.Spots.{rank}
+use Rattle.mvcc.specs.end.Ways.{storeOf}
+use Rattle.mvcc.proofs.undo.UndoStepLaws.{Undoing, undo-start, undo-turn, undo-end}
 use Rattle.mvcc.proofs.undo.undo_many.Statement.{statement}
 use Rattle.mvcc.proofs.undo.undo_many.Tie as tie
 
 abbrev Inv-loop : tie.InvT-loop
-Inv-loop log₀ table₀ i n version left₀ last₀ log table left last = Undoing n (stateOf log₀ (last₀ .used) table₀ (last₀ .count)) i version left (stateOf log (last .used) table (last .count))
+Inv-loop log₀ table₀ spot n version left₀ last₀ log table left last = Undoing n (storeOf log₀ table₀ last₀) (rank spot (rows log₀ table₀ last₀)) version left (storeOf log table last)
 
 abbrev μ-loop : tie.MeasureT-loop
-μ-loop log₀ table₀ i n version left₀ last₀ log table left last = left
+μ-loop log₀ table₀ spot n version left₀ last₀ log table left last = left
 
 loop-holds : tie.Need-loop-holds Inv-loop μ-loop
-loop-holds c = let a = c .before .before .args in undo-start (a .n) (stateOf (a .log .now) (a .mark .used) (a .table .now) (a .mark .count)) (a .i) (a .version) (record { slots = c .before .before .pre .0; ends = c .before .before .pre .1; small = c .before .before .pre .2 })
+loop-holds c = let a = c .before .before .args in undo-start (a .n) (rank (a .spot) (rows (a .log .now) (a .table .now) (a .mark))) (a .version) (c .before .before .pre)
 
-same-length : tie.Need-same-length Inv-loop μ-loop
-same-length c = c .before .before .before .loop .inv .keeps .extends .long
+undo-row-requires : tie.Need-undo-row-requires Inv-loop μ-loop
+undo-row-requires c κs = c .before .before .before .loop .inv .sized
 
-same-length-2 : tie.Need-same-length-2 Inv-loop μ-loop
-same-length-2 c = c .before .before .before .loop .inv .keeps .words
+sub-left : tie.Need-sub-left Inv-loop μ-loop
+sub-left c = omega arith
 
-returns : tie.Need-returns Inv-loop μ-loop
-returns c = undo-out (c .before .before .before .loop .inv) (c .before .before .loop-test .taken) (c .if1 .taken)
-
-undo-slot-requires : tie.Need-undo-slot-requires Inv-loop μ-loop
-undo-slot-requires c κs = let w = c .before .before .before .before .before .loop .inv .keeps .within in (omega (arith, c .before .before .if1 .left), w .slots, w .ends, w .small)
+loop-less : tie.Need-loop-less Inv-loop μ-loop
+loop-less c = omega arith
 
 loop-again : tie.Need-loop-again Inv-loop μ-loop
-loop-again c = undo-next (c .before .before .before .before .before .before .before .before .before .before .loop .inv) (c .before .before .before .before .before .before .before .before .before .loop-test .taken) (omega (arith, c .before .before .before .before .before .before .before .if1 .left)) (c .before .before .before .before .undo-slot .ensures)
+loop-again c = let a = c .before .before .before .before .before .before .before .before .before .before .before .args in undo-turn (a .spot) (c .before .before .before .before .before .before .before .before .loop .inv) (c .before .before .before .before .before .before .before .loop-test .taken) (c .before .before .before .before .undo-row .ensures)
 
-same-length-3 : tie.Need-same-length-3 Inv-loop μ-loop
-same-length-3 c = c .before .loop .inv .keeps .extends .long
+same-length : tie.Need-same-length Inv-loop μ-loop
+same-length c = c .before .loop .inv .keeps .extends .long
 
-same-length-4 : tie.Need-same-length-4 Inv-loop μ-loop
-same-length-4 c = c .before .loop .inv .keeps .words
+same-length-2 : tie.Need-same-length-2 Inv-loop μ-loop
+same-length-2 c = c .before .loop .inv .keeps .table
 
-returns-2 : tie.Need-returns-2 Inv-loop μ-loop
-returns-2 c = undo-end (c .before .loop .inv) (c .loop-test .left)
+returns : tie.Need-returns Inv-loop μ-loop
+returns c = undo-end (c .before .loop .inv) (c .loop-test .left)
 
 pub undo-many-spec : {M : Type 1} → statement M
 undo-many-spec =
@@ -45,13 +44,10 @@ undo-many-spec =
     Inv-loop
     μ-loop
     loop-holds
+    undo-row-requires
+    sub-left
+    loop-less
+    loop-again
     same-length
     same-length-2
-    returns
-    undo-slot-requires
-    (λ c. omega arith)
-    (λ c. omega arith)
-    loop-again
-    same-length-3
-    same-length-4
-    returns-2)
+    returns)

@@ -1,29 +1,16 @@
--- `version_of`: the version of a Version key, and none of the others.
-use Rattle.mvcc.proofs.version.SeenLaws.{version-by, version-none}
+-- `version_of`: the version alone.
+use Rattle.keycode.specs.Limits.{maxKey}
+use Rattle.keycode.specs.key.Keys.{decodeWhy, forget}
+use Rattle.mvcc.proofs.version.SeenLaws.{version-by}
 use borrow.Author.Needs.{needs}
 use Rattle.mvcc.proofs.version.version_of.Statement.{statement}
 use Rattle.mvcc.proofs.version.version_of.Tie as tie
 
 returns : tie.Need-returns
-returns c = version-by (c .before .before .before .before .before .decode .ensures) (c .before .before .before .k .given .1) (c .enum-told .given .1)
+returns c = let a = c .before .before .before .before .args in version-by (forget (decodeWhy maxKey (a .key .now))) (c .before .before .label-of .ensures) (c .enum-told .given .1)
 
 returns-2 : tie.Need-returns-2
-returns-2 c = version-by (c .before .before .before .before .before .decode .ensures) (c .before .before .before .k .given .1) (c .enum-told2 .given .1)
-
-returns-3 : tie.Need-returns-3
-returns-3 c = version-by (c .before .before .before .before .before .decode .ensures) (c .before .before .before .k .given .1) (c .enum-told3 .given .1)
-
-returns-4 : tie.Need-returns-4
-returns-4 c = version-by (c .before .before .before .before .before .decode .ensures) (c .before .before .before .k .given .1) (c .enum-told4 .given .1)
-
-returns-5 : tie.Need-returns-5
-returns-5 c = version-by (c .before .before .before .before .before .before .decode .ensures) (c .before .before .before .before .k .given .1) (c .before .k2 .given .1)
-
-returns-6 : tie.Need-returns-6
-returns-6 c = version-by (c .before .before .before .before .before .decode .ensures) (c .before .before .before .k .given .1) (c .enum-told5 .given .1)
-
-returns-7 : tie.Need-returns-7
-returns-7 c = version-none _ (c .before .before .decode .ensures) (c .enum-told6 .given .1)
+returns-2 c = let a = c .before .before .before .before .before .args in version-by (forget (decodeWhy maxKey (a .key .now))) (c .before .before .before .label-of .ensures) (c .before .v .given .1)
 
 pub version-of-spec : {M : Type 1} → statement M
 version-of-spec =
@@ -32,16 +19,5 @@ version-of-spec =
     (λ c κs. search needs)
     (λ c. search needs)
     (λ c. search needs)
-    (λ c. search needs)
-    (λ c. search needs)
-    (λ c. search needs)
-    (λ c. search needs)
-    (λ c. search needs)
-    (λ c. search needs)
     returns
-    returns-2
-    returns-3
-    returns-4
-    returns-5
-    returns-6
-    returns-7)
+    returns-2)

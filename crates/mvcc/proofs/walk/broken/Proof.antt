@@ -7,13 +7,13 @@ use Rattle.mvcc.proofs.walk.broken.Statement.{statement}
 use Rattle.mvcc.proofs.walk.broken.Tie as tie
 
 returns : tie.Need-returns
-returns c = let a = c .before .before .before .args in ap (brokenBy (a .log .now) (a .key) (a .held)) (sym (c .enum-told .given .1))
+returns c = let a = c .before .before .before .args in ap (brokenBy (a .log .now) (a .key) (a .value)) (sym (c .enum-told .given .1))
 
 returns-2 : tie.Need-returns-2
-returns-2 c = let a = c .before .before .before .before .before .before .args in broken-same (a .log .now) (a .key) (a .held) _ _ (c .before .before .before .row .given .1) (c .before .same-string .ensures) (c .if1 .taken)
+returns-2 c = let a = c .before .before .before .before .before .before .args in broken-same (a .log .now) (a .key) _ _ (c .before .before .before .row .given .1) (c .before .same-string .ensures) (a .value) (c .if1 .taken)
 
 returns-3 : tie.Need-returns-3
-returns-3 c = let a = c .before .before .before .before .before .before .before .args in broken-other (a .log .now) (a .key) (a .held) _ _ (c .before .before .before .before .row .given .1) (c .before .before .same-string .ensures) (c .before .if1 .left) (c .held-answer .ensures)
+returns-3 c = let a = c .before .before .before .before .before .before .args in broken-other (a .log .now) (a .key) _ _ (c .before .before .before .row .given .1) (c .before .same-string .ensures) (a .value) (c .if1 .left)
 
 pub broken-spec : {M : Type 1} → statement M
 broken-spec =
@@ -21,7 +21,6 @@ broken-spec =
     (tie.spec
     (λ c. search needs)
     (λ c. search needs)
-    (λ c κs. search needs)
     (λ c κs. search needs)
     returns
     returns-2

@@ -9,10 +9,10 @@ returns : tie.Need-returns
 returns c = ap endedBy (sym (c .enum-told .given .1))
 
 returns-2 : tie.Need-returns-2
-returns-2 c = c .held-answer .ensures ∙ ap endedBy (sym (c .before .before .walk .given .1))
+returns-2 c = c .group-answer .ensures ∙ ap endedBy (sym (c .before .before .walk .given .1))
 
 returns-3 : tie.Need-returns-3
-returns-3 c = c .held-answer2 .ensures ∙ ap endedBy (sym (c .before .before .walk2 .given .1))
+returns-3 c = ap endedBy (sym (c .before .walk2 .given .1))
 
 returns-4 : tie.Need-returns-4
 returns-4 c = ap endedBy (sym (c .before .walk3 .given .1))
@@ -25,7 +25,6 @@ ended-spec =
     (λ c. search needs)
     (λ c κs. search needs)
     (λ c. search needs)
-    (λ c κs. search needs)
     (λ c. search needs)
     returns
     returns-2

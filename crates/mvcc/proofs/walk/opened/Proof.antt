@@ -1,4 +1,4 @@
--- `opened`: the first record begins a group, or is none.
+-- `opened`: the first record.
 use mathlib.Core.Path.{sym, ap}
 use Rattle.mvcc.specs.walk.Walks.{openedBy}
 use borrow.Author.Needs.{needs}

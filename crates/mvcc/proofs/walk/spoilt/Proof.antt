@@ -1,4 +1,4 @@
--- `spoilt`: a walk for each that the group may hold.
+-- `spoilt`: a walk for each that the group may say.
 use mathlib.Core.Path.{sym, ap}
 use Rattle.mvcc.specs.walk.Walks.{spoiltBy}
 use borrow.Author.Needs.{needs}
@@ -6,16 +6,16 @@ use Rattle.mvcc.proofs.walk.spoilt.Statement.{statement}
 use Rattle.mvcc.proofs.walk.spoilt.Tie as tie
 
 returns : tie.Need-returns
-returns c = ap (spoiltBy (c .before .before .args .key)) (sym (c .enum-told .given .1))
+returns c = let a = c .before .before .args in ap (spoiltBy (a .key)) (sym (c .enum-told .given .1))
 
 returns-2 : tie.Need-returns-2
-returns-2 c = ap (spoiltBy (c .before .before .args .key)) (sym (c .enum-told2 .given .1))
+returns-2 c = let a = c .before .before .args in ap (spoiltBy (a .key)) (sym (c .enum-told2 .given .1))
 
 returns-3 : tie.Need-returns-3
-returns-3 c = ap (spoiltBy (c .before .before .args .key)) (sym (c .enum-told3 .given .1))
+returns-3 c = let a = c .before .before .args in ap (spoiltBy (a .key)) (sym (c .enum-told3 .given .1))
 
 returns-4 : tie.Need-returns-4
-returns-4 c = ap (spoiltBy (c .before .before .before .args .key)) (sym (c .before .held .given .1))
+returns-4 c = let a = c .before .before .before .args in ap (spoiltBy (a .key)) (sym (c .before .seen .given .1))
 
 pub spoilt-spec : {M : Type 1} → statement M
 spoilt-spec =

@@ -7,13 +7,13 @@ use Rattle.mvcc.proofs.walk.within.Statement.{statement}
 use Rattle.mvcc.proofs.walk.within.Tie as tie
 
 returns : tie.Need-returns
-returns c = let a = c .before .before .before .before .args in c .spoilt .ensures ∙ ap (withinBy (a .log .now) (a .key) (a .held)) (sym (c .before .enum-told .given .1))
+returns c = let a = c .before .before .before .before .args in c .spoilt .ensures ∙ ap (withinBy (a .log .now) (a .key) (a .seen)) (sym (c .before .enum-told .given .1))
 
 returns-2 : tie.Need-returns-2
-returns-2 c = let a = c .before .before .before .before .before .before .before .args in within-same (a .log .now) (a .key) (a .held) _ _ (c .before .before .before .before .row .given .1) (c .before .before .same-string .ensures) (c .before .if1 .taken) (c .later-held .ensures)
+returns-2 c = let a = c .before .before .before .before .before .before .before .args in within-same (a .log .now) (a .key) _ _ (c .before .before .before .before .row .given .1) (c .before .before .same-string .ensures) (a .seen) (c .before .if1 .taken) (c .later .ensures)
 
 returns-3 : tie.Need-returns-3
-returns-3 c = let a = c .before .before .before .before .before .before .before .args in within-other (a .log .now) (a .key) (a .held) _ _ (c .before .before .before .before .row .given .1) (c .before .before .same-string .ensures) (c .before .if1 .left) (c .closed .ensures)
+returns-3 c = let a = c .before .before .before .before .before .before .before .args in within-other (a .log .now) (a .key) _ _ (c .before .before .before .before .row .given .1) (c .before .before .same-string .ensures) (a .seen) (c .before .if1 .left) (c .closed .ensures)
 
 pub within-spec : {M : Type 1} → statement M
 within-spec =

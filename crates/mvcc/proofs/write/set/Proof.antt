@@ -4,6 +4,12 @@ use borrow.Author.Needs.{needs}
 use Rattle.mvcc.proofs.write.set.Statement.{statement}
 use Rattle.mvcc.proofs.write.set.Tie as tie
 
+slice-aggregate-write : tie.Need-slice-aggregate-write
+slice-aggregate-write c = search needs
+
+write-requires : tie.Need-write-requires
+write-requires c κs = search needs
+
 same-length : tie.Need-same-length
 same-length c = c .before .before .before .before .write .kept .0
 
@@ -16,10 +22,4 @@ returns c = c .before .before .before .before .write .ensures
 
 pub set-spec : {M : Type 1} → statement M
 set-spec =
-    tie.close
-    (tie.spec
-    (λ c. search needs)
-    (λ c κs. search needs)
-    same-length
-    same-length-2
-    returns)
+    tie.close (tie.spec slice-aggregate-write write-requires same-length same-length-2 returns)

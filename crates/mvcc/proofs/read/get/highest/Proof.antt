@@ -1,39 +1,51 @@
--- `highest`: the range between the two codes, walked down.
+-- `highest`: the versions of the key by their codes.
 use mathlib.Core.Path.{sym}
 use lib.Seq.{length-take-le}
-use Rattle.bitcask.proofs.keydir.CountLaws.{count-within}
-use Rattle.mvcc.proofs.read.GetLaws.{highest-by}
-use borrow.Author.Needs.{needs}
 use native.Mathlib.Omega.{arith}
+use Rattle.bitcask.specs.engine.Rows.{rows}
+use Rattle.mvcc.proofs.conflict.SearchLaws.{end-within}
+use Rattle.mvcc.proofs.version.SeenLaws.{highest-by}
+use borrow.Author.Needs.{needs}
 use Rattle.mvcc.proofs.read.get.highest.Statement.{statement}
 use Rattle.mvcc.proofs.read.get.highest.Tie as tie
 
-slice-aggregate-range : tie.Need-slice-aggregate-range
-slice-aggregate-range c = let w = c .before .before .before .before .version-code .ensures in sym (length-take-le _ _ (omega (arith, w .whole, w .within)))
+version-code-requires : tie.Need-version-code-requires
+version-code-requires c κs = search needs
 
-slice-aggregate-range-2 : tie.Need-slice-aggregate-range-2
-slice-aggregate-range-2 c = let w = c .before .before .before .version-code2 .ensures in sym (length-take-le _ _ (omega (arith, w .whole, w .within)))
+array-share-prefix-high : tie.Need-array-share-prefix-high
+array-share-prefix-high c = search needs
 
-range-requires : tie.Need-range-requires
-range-requires c κs = omega (arith, count-within (c .before .before .before .before .before .before .before .before .before .before .args .table .now), c .before .before .before .before .before .before .count .ensures)
+slice-aggregate-past : tie.Need-slice-aggregate-past
+slice-aggregate-past c = let w = c .before .before .version-code .ensures in sym (length-take-le _ _ (omega (arith, w .whole, w .within)))
+
+past-requires : tie.Need-past-requires
+past-requires c κs = search needs
+
+version-code-requires-2 : tie.Need-version-code-requires-2
+version-code-requires-2 c κs = search needs
+
+array-share-prefix-low : tie.Need-array-share-prefix-low
+array-share-prefix-low c = search needs
+
+slice-aggregate-seek : tie.Need-slice-aggregate-seek
+slice-aggregate-seek c = let w = c .before .before .version-code2 .ensures in sym (length-take-le _ _ (omega (arith, w .whole, w .within)))
 
 seek-requires : tie.Need-seek-requires
-seek-requires c κs = (omega (arith, count-within (c .before .before .before .before .before .before .before .before .before .before .before .args .table .now), c .before .before .before .before .before .before .before .count .ensures), c .range .ensures .within .1)
+seek-requires c κs = let a = c .before .before .before .before .before .before .before .before .before .before .args in (c .before .before .before .before .before .before .before .before .before .before .pre .0, end-within (rows (a .log .now) (a .table .now) (a .mark)) (c .before .before .before .before .before .before .version-code .result) (c .before .before .before .past .ensures))
 
 returns : tie.Need-returns
-returns c = let a = c .before .before .before .before .before .before .before .before .before .before .before .before .args in highest-by (a .log .now) (a .table .now) (a .handle) (a .key .now) (c .before .before .before .before .before .before .before .before .count .ensures) (c .before .before .before .before .before .before .before .version-code .ensures) (c .before .before .before .before .before .version-code2 .ensures) (c .before .range .ensures) (c .seek .ensures)
+returns c = let a = c .before .before .before .before .before .before .before .before .before .before .before .args in highest-by (rows (a .log .now) (a .table .now) (a .mark)) (a .handle) (a .key .now) (a .handle .version) (c .before .before .before .before .before .before .before .version-code .ensures) (c .before .before .before .before .past .ensures) (c .before .before .before .version-code2 .ensures) (c .seek .ensures)
 
 pub highest-spec : {M : Type 1} → statement M
 highest-spec =
     tie.close
     (tie.spec
-    (λ c κs. search needs)
-    (λ c κs. search needs)
-    (λ c κs. search needs)
-    (λ c. search needs)
-    slice-aggregate-range
-    (λ c. search needs)
-    slice-aggregate-range-2
-    range-requires
+    version-code-requires
+    array-share-prefix-high
+    slice-aggregate-past
+    past-requires
+    version-code-requires-2
+    array-share-prefix-low
+    slice-aggregate-seek
     seek-requires
     returns)

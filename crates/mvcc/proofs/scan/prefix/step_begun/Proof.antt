@@ -1,27 +1,36 @@
--- `step_begun`: the range of the prefix's code, and the step past the last given key.
+-- `step_begun`: the prefix's code and its end, and the step past the last given key.
 use mathlib.Core.Path.{sym}
+use native.Mathlib.Omega.{arith}
 use lib.Seq.{length-take-le}
-use Rattle.bitcask.specs.keydir.Slots.{slotsOf}
+use Rattle.bitcask.specs.engine.Rows.{rows}
 use Rattle.mvcc.proofs.scan.BoundLaws.{code-short, prefix-short, prefix-last, begun-by}
 use borrow.Author.Needs.{needs}
-use native.Mathlib.Omega.{arith}
 use Rattle.mvcc.proofs.scan.prefix.step_begun.Statement.{statement}
 use Rattle.mvcc.proofs.scan.prefix.step_begun.Tie as tie
 
 prefix-code-requires : tie.Need-prefix-code-requires
 prefix-code-requires c κs = let a = c .before .before .before .before .args in prefix-short (a .prefix .now) (a .given) (a .last .now) (c .before .before .before .before .pre .1)
 
-slice-aggregate-prefix-range : tie.Need-slice-aggregate-prefix-range
-slice-aggregate-prefix-range c = let w = c .before .before .prefix-code .ensures in sym (length-take-le _ _ (omega (arith, w .whole, w .within)))
+slice-aggregate-upper-of : tie.Need-slice-aggregate-upper-of
+slice-aggregate-upper-of c = let w = c .before .before .prefix-code .ensures in sym (length-take-le _ _ (omega (arith, w .whole, w .within)))
 
-prefix-range-requires : tie.Need-prefix-range-requires
-prefix-range-requires c κs = (c .before .before .before .before .before .before .before .pre .0, code-short (c .before .before .prefix-code .ensures))
+upper-of-requires : tie.Need-upper-of-requires
+upper-of-requires c κs = code-short (c .before .before .prefix-code .ensures)
+
+slice-aggregate-step-past : tie.Need-slice-aggregate-step-past
+slice-aggregate-step-past c = let w = c .before .before .before .before .before .before .prefix-code .ensures in sym (length-take-le _ _ (omega (arith, w .whole, w .within)))
+
+array-share-prefix-high : tie.Need-array-share-prefix-high
+array-share-prefix-high c = let w = c .before .before .before .upper-of .ensures .code in omega (arith, w .whole, w .within)
+
+slice-aggregate-step-past-2 : tie.Need-slice-aggregate-step-past-2
+slice-aggregate-step-past-2 c = let w = c .before .before .before .before .upper-of .ensures .code in sym (length-take-le _ _ (omega (arith, w .whole, w .within)))
 
 step-past-requires : tie.Need-step-past-requires
-step-past-requires c κs = let a = c .before .before .before .before .before .before .before .before .args in (c .before .before .before .before .before .before .before .before .pre .0, (c .prefix-range .ensures .within .1, prefix-last (a .prefix .now) (a .given) (a .last .now) (c .before .before .before .before .before .before .before .before .pre .1)))
+step-past-requires c κs = let a = c .before .before .before .before .before .before .before .before .before .before .before .before .args in (c .before .before .before .before .before .before .before .before .before .before .before .before .pre .0, prefix-last (a .prefix .now) (a .given) (a .last .now) (c .before .before .before .before .before .before .before .before .before .before .before .before .pre .1))
 
 returns : tie.Need-returns
-returns c = let a = c .before .before .before .before .before .before .before .before .before .args in begun-by (a .handle) (a .log .now) (slotsOf (a .count) (a .table .now)) (a .given) (a .last .now) (a .prefix .now) (c .before .before .before .before .prefix-code .ensures) (c .before .prefix-range .ensures) (c .step-past .ensures)
+returns c = let a = c .before .before .before .before .before .before .before .before .before .before .before .before .before .args in begun-by (a .handle) (a .log .now) (rows (a .log .now) (a .table .now) (a .mark)) (a .given) (a .last .now) (a .prefix .now) (c .before .before .before .before .before .before .before .before .prefix-code .ensures) (c .before .before .before .before .before .upper-of .ensures) (c .step-past .ensures)
 
 pub step-begun-spec : {M : Type 1} → statement M
 step-begun-spec =
@@ -29,7 +38,11 @@ step-begun-spec =
     (tie.spec
     prefix-code-requires
     (λ c. search needs)
-    slice-aggregate-prefix-range
-    prefix-range-requires
+    slice-aggregate-upper-of
+    upper-of-requires
+    (λ c. search needs)
+    slice-aggregate-step-past
+    array-share-prefix-high
+    slice-aggregate-step-past-2
     step-past-requires
     returns)
