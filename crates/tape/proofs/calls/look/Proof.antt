@@ -4,7 +4,7 @@ use Rattle.tape.proofs.calls.look.Statement.{statement}
 use Rattle.tape.proofs.calls.look.Tie as tie
 use Rattle.tape.proofs.calls.look.Reads as reads
 use Rattle.tape.proofs.calls.look.Lts as lts
-use Rattle.mvcc.proofs.read.get.get.Reads as get-reads
+use Rattle.mvcc.proofs.get.Reads as get-reads
 use Rattle.tape.proofs.answers.answer_got.Reads as answer-got-reads
 
 -- src/calls.rt:83:9
