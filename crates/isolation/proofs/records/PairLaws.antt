@@ -12,7 +12,7 @@ use Rattle.keycode.proofs.Basics.{nope}
 use Rattle.keycode.proofs.OrderLaws.{flip, compare-flip, compare-refl}
 use Rattle.keycode.specs.key.Keys.{Fields, encode}
 use Rattle.bitcask.specs.recovery.Map.{Pair, lookIn, putIn, cutIn, liveIn}
-use Rattle.mvcc.specs.request.Looks as Looks
+use Rattle.bitcask.specs.recovery.Map as Pairs
 use Rattle.isolation.specs.history.Store.{isSome}
 use Rattle.isolation.specs.history.Records.{fields≟, Rec, keyOf, Map, look, without, isYes, put, place, Above, above-nil, above-cons, Sorted, sorted-nil, sorted-cons}
 use Rattle.isolation.proofs.history.MapLaws.{look-here, look-past, above-trans, is-no, is-yes}
@@ -110,6 +110,6 @@ pub live-pairs : (K : Fields) {m : Map} → Sorted keyOrder m → liveIn (encode
 unfolding liveIn
 live-pairs K {m} s = rw (look-pairs K s) (go (look m K))
   where
-    go : (o : Option Rec) → Looks.isSome (payloadIn o) ≡ isSome o
+    go : (o : Option Rec) → Pairs.isSome (payloadIn o) ≡ isSome o
     go none = refl
     go (some r) = refl
