@@ -8,14 +8,14 @@ use borrow.Author.Tests.{le-leb, lt-leb}
 use Rattle.keycode.specs.Tests.{ifDone}
 use Rattle.keycode.specs.Buffer.{put}
 use Rattle.rows.specs.declared.fields.Row.{Row}
-use Rattle.rows.specs.declared.fields.Denial.{Denial}
-use Rattle.rows.specs.declared.fields.Denial.the-variants.{BadKey, BadRequest, BadFlag, BadText}
+use Rattle.codecs.specs.declared.fields.Denial.{Denial}
+use Rattle.codecs.specs.declared.fields.Denial.the-variants.{BadKey, BadRequest, BadFlag, BadText}
 use Rattle.rows.specs.declared.fields.RowCheck.{RowCheck}
 use Rattle.rows.specs.declared.fields.RowCheck.the-variants.{Whole, Denied as Failed}
 use Rattle.rows.specs.declared.fields.RowLength.the-variants.{Done, Denied}
 use Rattle.rows.specs.declared.encoding.Room.{Room}
 use Rattle.rows.specs.declared.encoding.Room.the-variants.{Left, Short}
-use Rattle.rows.specs.Denials.{denialNumber}
+use Rattle.codecs.specs.Denials.{denialNumber}
 use Rattle.rows.specs.Promises.{fieldsOf, rowBytes, fieldsCheck, rowAnswer, rowNumber, RowWrites}
 use Rattle.rows.specs.Inner.{roomOf, InWords}
 use Rattle.keycode.proofs.BufferLaws.{put-front}

@@ -14,12 +14,12 @@ use Rattle.rows.specs.declared.fields.Field.{Field}
 use Rattle.rows.specs.declared.fields.Field.the-variants.{Flag, U64, I64, F64, Bytes, Text}
 use Rattle.rows.specs.declared.fields.Cell.{Cell}
 use Rattle.rows.specs.declared.fields.Row.{Row}
-use Rattle.rows.specs.declared.fields.Denial.{Denial}
-use Rattle.rows.specs.declared.fields.Denial.the-variants.{BadRequest, BadText}
+use Rattle.codecs.specs.declared.fields.Denial.{Denial}
+use Rattle.codecs.specs.declared.fields.Denial.the-variants.{BadRequest, BadText}
 use Rattle.rows.specs.declared.fields.RowCheck.{RowCheck}
 use Rattle.rows.specs.declared.fields.RowCheck.the-variants.{Whole, Denied}
-use Rattle.rows.specs.Utf8.{wellFormed}
-use Rattle.rows.specs.Kinds.{Sound, SoundRow}
+use Rattle.codecs.specs.Utf8.{wellFormed}
+use Rattle.codecs.specs.Kinds.{Sound, SoundRow}
 use Rattle.rows.specs.Promises.{partOf, kindOf, valOf, kindsOf, valsOf, fieldsOf, within, bytesCheck, textCheck, fieldCheck, firstFault, fieldsCheck, blank}
 use Rattle.rows.specs.Inner.{InWord, InWords}
 use Rattle.keycode.proofs.Basics.{nope}

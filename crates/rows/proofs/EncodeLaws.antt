@@ -21,8 +21,8 @@ use Rattle.rows.specs.declared.fields.Field.the-variants.{Flag, U64, I64
 use Rattle.rows.specs.declared.fields.Row.{Row}
 use Rattle.rows.specs.declared.encoding.Room.{Room}
 use Rattle.rows.specs.declared.encoding.Room.the-variants.{Left, Short}
-use Rattle.rows.specs.Signs.{Small, biased, flipped}
-use Rattle.rows.specs.Kinds.{flagBytes}
+use Rattle.codecs.specs.Signs.{Small, biased, flipped}
+use Rattle.codecs.specs.Kinds.{flagBytes}
 use Rattle.rows.specs.Promises.{partOf, fieldsOf, fieldBytes, rowBytes, blank}
 use Rattle.rows.specs.Inner.{roomOf, InWord, InWords, PutField}
 use Rattle.keycode.proofs.Basics.{nope}

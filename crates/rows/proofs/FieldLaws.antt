@@ -11,8 +11,8 @@ use lib.Dec.{eqb}
 use borrow.Author.Tests.{le-leb, lt-leb}
 use Rattle.keycode.specs.Tests.{pick}
 use Rattle.keycode.specs.Strings.{escapeBody, escape}
-use Rattle.rows.specs.declared.fields.Kind.{Kind}
-use Rattle.rows.specs.declared.fields.Kind.the-variants.{Boolean, Binary, String}
+use Rattle.codecs.specs.declared.fields.Kind.{Kind}
+use Rattle.codecs.specs.declared.fields.Kind.the-variants.{Boolean, Binary, String}
 use Rattle.rows.specs.declared.fields.Field.{Field}
 use Rattle.rows.specs.declared.fields.Field.the-variants.{Bytes, Text}
 use Rattle.rows.specs.declared.fields.Cell.{Cell}
@@ -20,21 +20,21 @@ use Rattle.rows.specs.declared.fields.KindCell.{KindCell}
 use Rattle.rows.specs.declared.fields.Kinds.{Kinds}
 use Rattle.rows.specs.declared.fields.RowRead.{RowRead}
 use Rattle.rows.specs.declared.fields.RowCheck.the-variants.{Whole}
-use Rattle.rows.specs.declared.fields.Denial.{Denial}
-use Rattle.rows.specs.declared.fields.Denial.the-variants.{BadKey, BadRequest, BadText}
+use Rattle.codecs.specs.declared.fields.Denial.{Denial}
+use Rattle.codecs.specs.declared.fields.Denial.the-variants.{BadKey, BadRequest, BadText}
 use Rattle.rows.specs.declared.decoding.Taken.{Taken}
 use Rattle.rows.specs.declared.decoding.Taken.the-variants.{Read, Refused}
 use Rattle.rows.specs.declared.decoding.Strung.{Strung}
 use Rattle.rows.specs.declared.decoding.Strung.the-variants.{Ended, Broken}
-use Rattle.rows.specs.Denials.{Got, got, bad, before, thenGot}
-use Rattle.rows.specs.Utf8.{wellFormed}
-use Rattle.rows.specs.Kinds.{push, readBytes, judged, readText, Val, enc, dec, Vals, decRow, wholly}
+use Rattle.codecs.specs.Denials.{Got, got, bad, before, thenGot}
+use Rattle.codecs.specs.Utf8.{wellFormed}
+use Rattle.codecs.specs.Kinds.{push, readBytes, judged, readText, Val, enc, dec, Vals, decRow, wholly}
 use Rattle.rows.specs.Promises.{placed, placedRow, blank, kindList, named, rowOf, failed, readAs, readAnswer}
 use Rattle.rows.specs.Inner.{takenAs, strungAs}
 use Rattle.keycode.proofs.Basics.{nope}
 use Rattle.keycode.proofs.NumberLaws.{Bytes as AllBytes, bytes-drop}
 use Rattle.keycode.proofs.StringLaws.{escape-length}
-use Rattle.rows.proofs.KindLaws.{bytes-stood, kind-codec}
+use Rattle.codecs.proofs.KindLaws.{bytes-stood, kind-codec}
 use Rattle.rows.proofs.CheckLaws.{first-cons, first-none}
 
 -- ---- a string's field, by where the string ends

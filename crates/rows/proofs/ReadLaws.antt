@@ -19,23 +19,23 @@ use Rattle.keycode.specs.declared.strings.Fault.{Fault}
 use Rattle.keycode.specs.declared.strings.Reason.the-variants.{BadEscape}
 use Rattle.keycode.specs.declared.strings.Step.{Step}
 use Rattle.keycode.specs.declared.strings.Step.the-variants.{Byte, Closed, Bad}
-use Rattle.rows.specs.declared.fields.Kind.the-variants.{Boolean, Unsigned, Signed, Float}
+use Rattle.codecs.specs.declared.fields.Kind.the-variants.{Boolean, Unsigned, Signed, Float}
 use Rattle.rows.specs.declared.fields.Field.the-variants.{Flag, U64, I64, F64}
-use Rattle.rows.specs.declared.fields.Denial.the-variants.{BadKey, BadFlag}
+use Rattle.codecs.specs.declared.fields.Denial.the-variants.{BadKey, BadFlag}
 use Rattle.rows.specs.declared.decoding.Taken.the-variants.{Read, Refused}
 use Rattle.rows.specs.declared.decoding.Strung.{Strung}
 use Rattle.rows.specs.declared.decoding.Strung.the-variants.{Ended, Broken}
-use Rattle.rows.specs.declared.utf8.State.{State}
-use Rattle.rows.specs.Denials.{Got, got, bad, mapGot}
-use Rattle.rows.specs.Signs.{unbiased, unflipped, biased, flipped}
-use Rattle.rows.specs.Utf8.{Awaited, await, fed, fedAll, ended, wellFormed}
-use Rattle.rows.specs.States.{awaitedBy}
-use Rattle.rows.specs.Kinds.{flagBytes, readFlag, readEight, push, readBytes}
+use Rattle.codecs.specs.declared.utf8.State.{State}
+use Rattle.codecs.specs.Denials.{Got, got, bad, mapGot}
+use Rattle.codecs.specs.Signs.{unbiased, unflipped, biased, flipped}
+use Rattle.codecs.specs.Utf8.{Awaited, await, fed, fedAll, ended, wellFormed}
+use Rattle.codecs.specs.States.{awaitedBy}
+use Rattle.codecs.specs.Kinds.{flagBytes, readFlag, readEight, push, readBytes}
 use Rattle.rows.specs.Inner.{takenAs, strungAs}
 use Rattle.keycode.proofs.Basics.{nope}
 use Rattle.keycode.proofs.NumberLaws.{length-be}
 use Rattle.keycode.proofs.StringLaws.{AtByte}
-use Rattle.rows.proofs.KindLaws.{read-byte}
+use Rattle.codecs.proofs.KindLaws.{read-byte}
 
 -- ---- a boolean
 

@@ -11,8 +11,8 @@ use borrow.Author.Tests.{le-leb, leb-true}
 use Rattle.keycode.specs.Tests.{pick, ifDone}
 use Rattle.keycode.specs.Order.{compareBytes}
 use Rattle.keycode.specs.Strings.{escapeBody, escape, unescaped}
-use Rattle.rows.specs.declared.fields.Kind.{Kind}
-use Rattle.rows.specs.declared.fields.Kind.the-variants.{Boolean, Unsigned, Signed, Float, Binary, String}
+use Rattle.codecs.specs.declared.fields.Kind.{Kind}
+use Rattle.codecs.specs.declared.fields.Kind.the-variants.{Boolean, Unsigned, Signed, Float, Binary, String}
 use Rattle.rows.specs.declared.fields.Cell.{Cell}
 use Rattle.rows.specs.declared.fields.Kinds.{Kinds}
 use Rattle.rows.specs.declared.fields.Row.{Row}
@@ -21,15 +21,15 @@ use Rattle.rows.specs.declared.fields.RowCheck.{RowCheck}
 use Rattle.rows.specs.declared.fields.RowCheck.the-variants.{Whole, Denied as Failed}
 use Rattle.rows.specs.declared.fields.RowLength.{RowLength}
 use Rattle.rows.specs.declared.fields.RowLength.the-variants.{Done, Denied}
-use Rattle.rows.specs.declared.fields.Denial.the-variants.{BadRequest}
-use Rattle.rows.specs.Denials.{Got, got, bad}
-use Rattle.rows.specs.Kinds.{Val, enc, Vals, SoundRow, encRow, decRow, cmpRow, wholly}
+use Rattle.codecs.specs.declared.fields.Denial.the-variants.{BadRequest}
+use Rattle.codecs.specs.Denials.{Got, got, bad}
+use Rattle.codecs.specs.Kinds.{Val, enc, Vals, SoundRow, encRow, decRow, cmpRow, wholly}
 use Rattle.rows.specs.Promises.{kindsOf, valsOf, fieldsOf, fieldsCheck, rowBytes, lengthBy, rowAnswer, rowNumber, RowWrites, placed, placedRow, blank, named, rowOf, failed, readAs, readAnswer}
 use Rattle.rows.specs.Spelling.{Spells, flag, unsigned, signed, float, binary, text, SpellsRow, none, more}
 use Rattle.keycode.proofs.Basics.{nope}
 use Rattle.keycode.proofs.NumberLaws.{Bytes as AllBytes}
 use Rattle.keycode.proofs.StringLaws.{unescaped-body}
-use Rattle.rows.proofs.KindLaws.{decode-encode, encode-decode, rows-sort}
+use Rattle.codecs.proofs.KindLaws.{decode-encode, encode-decode, rows-sort}
 
 -- ---- what was encoded is decoded
 

@@ -6,7 +6,7 @@ use mathlib.Core.List.{List, [], _∷_}
 use lib.ListN.{length}
 use lib.Dec.{leb}
 use Rattle.keycode.specs.Tests.{pick}
-use Rattle.rows.specs.declared.fields.Kind.{Kind}
+use Rattle.codecs.specs.declared.fields.Kind.{Kind}
 use Rattle.rows.specs.declared.fields.Field.{Field}
 use Rattle.rows.specs.declared.fields.Field.the-variants.{Flag, U64, I64, F64, Bytes, Text}
 use Rattle.rows.specs.declared.fields.Cell.{Cell}
@@ -16,11 +16,11 @@ use Rattle.rows.specs.declared.decoding.Taken.{Taken}
 use Rattle.rows.specs.declared.decoding.Taken.the-variants.{Read, Refused}
 use Rattle.rows.specs.declared.decoding.Strung.{Strung}
 use Rattle.rows.specs.declared.decoding.Strung.the-variants.{Ended, Broken}
-use Rattle.rows.specs.Denials.{Got, got, bad}
-use Rattle.rows.specs.Kinds.{Val, enc}
-use Rattle.rows.specs.Signs.{Small}
+use Rattle.codecs.specs.Denials.{Got, got, bad}
+use Rattle.codecs.specs.Kinds.{Val, enc}
+use Rattle.codecs.specs.Signs.{Small}
 use Rattle.rows.specs.Promises.{placed, fieldBytes}
-use Rattle.rows.specs.Utf8.{wellFormed}
+use Rattle.codecs.specs.Utf8.{wellFormed}
 use Rattle.keycode.specs.Buffer.{put}
 use Rattle.keycode.specs.Strings.{escapeBody}
 

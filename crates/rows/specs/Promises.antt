@@ -8,24 +8,24 @@ use lib.Dec.{leb}
 use Rattle.keycode.specs.Tests.{pick, ifDone}
 use Rattle.keycode.specs.Strings.{escapeBody}
 use Rattle.keycode.specs.declared.parts.Part.{Part}
-use Rattle.rows.specs.declared.fields.Kind.{Kind}
-use Rattle.rows.specs.declared.fields.Kind.the-variants.{Boolean, Unsigned, Signed, Float, Binary, String}
+use Rattle.codecs.specs.declared.fields.Kind.{Kind}
+use Rattle.codecs.specs.declared.fields.Kind.the-variants.{Boolean, Unsigned, Signed, Float, Binary, String}
 use Rattle.rows.specs.declared.fields.Field.{Field}
 use Rattle.rows.specs.declared.fields.Field.the-variants.{Flag, U64, I64, F64, Bytes, Text}
 use Rattle.rows.specs.declared.fields.Cell.{Cell}
 use Rattle.rows.specs.declared.fields.KindCell.{KindCell}
 use Rattle.rows.specs.declared.fields.Row.{Row}
 use Rattle.rows.specs.declared.fields.Kinds.{Kinds}
-use Rattle.rows.specs.declared.fields.Denial.{Denial}
-use Rattle.rows.specs.declared.fields.Denial.the-variants.{BadRequest, BadText}
+use Rattle.codecs.specs.declared.fields.Denial.{Denial}
+use Rattle.codecs.specs.declared.fields.Denial.the-variants.{BadRequest, BadText}
 use Rattle.rows.specs.declared.fields.RowLength.{RowLength}
 use Rattle.rows.specs.declared.fields.RowLength.the-variants.{Done, Denied}
 use Rattle.rows.specs.declared.fields.RowRead.{RowRead}
 use Rattle.rows.specs.declared.fields.RowCheck.{RowCheck}
 use Rattle.rows.specs.declared.fields.RowCheck.the-variants.{Whole, Denied as Failed}
-use Rattle.rows.specs.Denials.{denialNumber, Got, got, bad}
-use Rattle.rows.specs.Utf8.{wellFormed}
-use Rattle.rows.specs.Kinds.{Val, enc, Vals, SoundRow, encRow, decRow, wholly}
+use Rattle.codecs.specs.Denials.{denialNumber, Got, got, bad}
+use Rattle.codecs.specs.Utf8.{wellFormed}
+use Rattle.codecs.specs.Kinds.{Val, enc, Vals, SoundRow, encRow, decRow, wholly}
 
 -- ---- the values of a row's fields, whose strings are parts of the lent slice s
 

@@ -1,17 +1,17 @@
 // Decoding a row: the fields of a key one after the other, by kinds that are named beforehand.
 use crate::fields::Cell;
-use crate::fields::Denial;
 use crate::fields::Field;
-use crate::fields::Kind;
 use crate::fields::Kinds;
 use crate::fields::Row;
 use crate::fields::RowCheck;
 use crate::fields::RowRead;
-use crate::signs::unbias;
-use crate::signs::unflip;
-use crate::utf8::State;
-use crate::utf8::closed;
-use crate::utf8::feed;
+use codecs::Denial;
+use codecs::Kind;
+use codecs::signs::unbias;
+use codecs::signs::unflip;
+use codecs::utf8::State;
+use codecs::utf8::closed;
+use codecs::utf8::feed;
 use keycode::Part;
 use keycode::number::get_number;
 use keycode::parts::clip;
@@ -20,8 +20,8 @@ use keycode::strings::step_at;
 ghost use mathlib.Core.Path.{_≡_};
 ghost use Prim.Native.Nat.{_+_, _≤_, _<_};
 ghost use lib.ListN.{length, drop, getD};
-ghost use Rattle.rows.specs.declared.fields.Kind.the-variants.{Boolean, Unsigned, Signed, Float, Binary, String};
-ghost use Rattle.rows.specs.Kinds.{dec, readBytes};
+ghost use Rattle.codecs.specs.declared.fields.Kind.the-variants.{Boolean, Unsigned, Signed, Float, Binary, String};
+ghost use Rattle.codecs.specs.Kinds.{dec, readBytes};
 ghost use Rattle.rows.specs.Promises.{failed, readAnswer};
 ghost use Rattle.rows.specs.Inner.{takenAs, strungAs};
 

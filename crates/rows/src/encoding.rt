@@ -1,12 +1,12 @@
 // Encoding a row: its fields one after the other at the front of a lent buffer. What can be refused is found before a byte is written.
-use crate::fields::Denial;
 use crate::fields::Field;
 use crate::fields::Row;
 use crate::fields::RowCheck;
 use crate::fields::RowLength;
-use crate::signs::bias;
-use crate::signs::flip;
-use crate::utf8::is_utf8;
+use codecs::Denial;
+use codecs::signs::bias;
+use codecs::signs::flip;
+use codecs::utf8::is_utf8;
 use keycode::Part;
 use keycode::number::put_number;
 use keycode::parts::clip;
@@ -17,7 +17,7 @@ ghost use Prim.Native.Nat.{_+_, _≤_, _<_};
 ghost use lib.ListN.{length, getD};
 ghost use Rattle.keycode.specs.Buffer.{put};
 ghost use Rattle.keycode.specs.Strings.{escape};
-ghost use Rattle.rows.specs.Kinds.{flagBytes};
+ghost use Rattle.codecs.specs.Kinds.{flagBytes};
 ghost use Rattle.rows.specs.Promises.{within, bytesCheck, textCheck, fieldCheck, fieldsCheck, fieldBytes, rowBytes, fieldsOf, blank, RowWrites};
 ghost use Rattle.rows.specs.Inner.{roomOf, InWords, PutField};
 

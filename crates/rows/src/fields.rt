@@ -1,14 +1,7 @@
-// The kinds of a field, a row's fields, and what the two calls answer.
+// A row's fields and kinds, and what the two calls answer.
+use codecs::Denial;
+use codecs::Kind;
 use keycode::Part;
-
-pub enum Kind {
-    Boolean,
-    Unsigned,
-    Signed,
-    Float,
-    Binary,
-    String,
-}
 
 // A field's value. A float is its 64-bit pattern. Bytes and a text are a part of the lent slice: the string itself where a row is
 // encoded, its escaped bytes with no end where one was decoded.
@@ -38,14 +31,6 @@ pub struct Row {
 pub struct Kinds {
     pub cells: [KindCell; 8],
     pub len: usize,
-}
-
-// Why a row is refused; `denialNumber` of specs/Denials.antt gives each its number. 14 and 15 are numbers of these two calls alone.
-pub enum Denial {
-    BadKey,
-    BadRequest,
-    BadFlag,
-    BadText,
 }
 
 pub enum RowLength {

@@ -3,15 +3,13 @@
 mod decoding;
 mod encoding;
 mod fields;
-mod signs;
-mod utf8;
 
+pub use codecs::Denial;
+pub use codecs::Kind;
 pub use decoding::decode_row;
 pub use encoding::encode_row;
 pub use fields::Cell;
-pub use fields::Denial;
 pub use fields::Field;
-pub use fields::Kind;
 pub use fields::KindCell;
 pub use fields::Kinds;
 pub use fields::Row;

@@ -1,6 +1,6 @@
 -- `pattern` loses nothing in its casts.
 use native.Mathlib.Omega.{arith}
-use Rattle.rows.proofs.CastLaws.{low-fits, low-cast, low-within, high-cast}
+use Rattle.codecs.proofs.CastLaws.{low-fits, low-cast, low-within, high-cast}
 use borrow.Author.Needs.{needs}
 use Rattle.catalogue.proofs.answers.pattern.Statement.{statement}
 use Rattle.catalogue.proofs.answers.pattern.Tie as tie

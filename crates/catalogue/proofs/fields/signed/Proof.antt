@@ -1,6 +1,6 @@
 -- `signed` loses nothing in its casts.
 use Prim.Native.Nat.{_-_}
-use Rattle.rows.proofs.CastLaws.{under-fits}
+use Rattle.codecs.proofs.CastLaws.{under-fits}
 use borrow.Author.Needs.{needs}
 use native.Mathlib.Omega.{arith}
 use Rattle.catalogue.proofs.fields.signed.Statement.{statement}

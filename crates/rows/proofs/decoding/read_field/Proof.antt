@@ -1,6 +1,6 @@
 -- `read_field` is the reader of the kind.
 use lib.ListN.{drop}
-use Rattle.rows.specs.declared.fields.Kind.the-variants.{Boolean, Unsigned, Signed, Float, Binary, String}
+use Rattle.codecs.specs.declared.fields.Kind.the-variants.{Boolean, Unsigned, Signed, Float, Binary, String}
 use Rattle.rows.proofs.FieldLaws.{field-as}
 use borrow.Author.Needs.{needs}
 use Rattle.rows.proofs.decoding.read_field.Statement.{statement}
