@@ -1,5 +1,7 @@
 // The bench program: a tape on standard input, its answers on standard output. What a record does is crate tape's; here are the buffers,
 // and the bytes from one end to the other. Document 01, 'Tape'.
+#![tactic(auto)]
+
 mod feed;
 
 use bitcask::{Used, open};

@@ -8,6 +8,8 @@
 // sixteen digits of the number, in two's complement, or of the pattern; the string's bytes. Behind Y and S the part that is lent has
 // one byte more than is spelt. A decoded string is its place and its length in the key, four digits each. KEY is hex, or - for no byte.
 // Any other line is written as it is.
+#![tactic(auto)]
+
 mod answers;
 mod fields;
 mod hex;

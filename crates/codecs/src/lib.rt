@@ -1,4 +1,6 @@
 // The six kinds of a field of a typed key, each with its bytes and its order: what rows of such fields rest on. Document 02, W5.
+#![tactic(auto)]
+
 mod fields;
 pub mod signs;
 pub mod utf8;

@@ -1,5 +1,7 @@
 // Short exhaustive runs: every log of up to three small entries, cut at every length, opened into tables of 0 to 3 slots that were full
 // of junk, and each answer, table word, get and scan step beside a plain reading of the same bytes.
+#![tactic(auto)]
+
 mod compare;
 mod logs;
 mod plain;

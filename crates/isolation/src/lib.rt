@@ -1,1 +1,2 @@
 // Snapshot isolation over the public calls: definitions and theorems, and no code.
+#![tactic(auto)]

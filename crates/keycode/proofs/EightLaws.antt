@@ -1,14 +1,12 @@
 -- Laws of eight bytes taken at once: the number that they are, and that strings sort by the numbers of their first bytes and then by
 -- what follows. Assumes nothing.
-use Prim.Native.Nat.{ℕ, suc, ◌+◌, ◌*◌, ◌^◌, ◌≤◌, ◌<◌}
-use mathlib.Core.Path.{◌≡◌, refl, sym, ap, ap₂, ◌∙◌}
+use Prim.Native.Nat.{ℕ, ◌+◌, ◌*◌, ◌^◌, ◌≤◌, ◌<◌}
+use mathlib.Core.Path.{◌≡◌, sym, ap, ap₂, ◌∙◌}
 use mathlib.Core.List.{List, [], ◌∷◌, ◌++◌}
 use native.Mathlib.Omega.{arith}
-use native.Mathlib.Nat.{add-zero}
 use lib.ListN.{length, take, drop, get_or, length-drop, take-append-drop}
 use lib.Seq.{get_or-drop, drop-drop, length-take-le}
-use Rattle.keycode.specs.declared.order.Order.{Order}
-use Rattle.keycode.specs.declared.order.Order.TheVariants.{Less, Equal, Greater}
+use Rattle.keycode.specs.declared.order.Order.TheVariants.{Less, Greater}
 use Rattle.keycode.specs.Number.{be, num, num_from}
 use Rattle.keycode.specs.Order.{compare_nat, compare_bytes, and_then}
 use Rattle.keycode.proofs.OrderLaws.{nat_less, nat_greater, nat_equal}

@@ -1,7 +1,7 @@
 -- Laws of numbers as big-endian bytes, for every width: bounds, the round trip both ways, the order, and the turns of the loops that
 -- write and read one. Assumes nothing.
 use Prim.Native.Nat.{ℕ, zero, suc, ◌+◌, ◌-◌, ◌*◌, ◌/◌, ◌%◌, ◌^◌, ◌≤◌, ◌<◌}
-use mathlib.Core.Path.{◌≡◌, refl, sym, ap, ◌∙◌}
+use mathlib.Core.Path.{◌≡◌, refl, ap, ◌∙◌}
 use mathlib.Core.List.{List, [], ◌∷◌, ◌++◌}
 use native.Mathlib.Nat.{add-zero, zero-add, add_assoc, add-mul, mul_assoc, mul-one, zero-mul, pow-zero, pow-succ', mod-lt, div-add-mod', mul-le-mul_right, one-le-pow, suc-mul, pow-suc, div-one, div-div-eq-div-mul, mod-eq_of_lt, pow-le-pow_right, lt_of_lt_of_le}
 use native.Mathlib.Omega.{arith}
@@ -10,8 +10,6 @@ use lib.Arith.{digits_div, digits_mod, digits_lt, mod-mul}
 use lib.Dec.{lit<}
 use lib.ListN.{length, take, drop, get_or, set, length-set}
 use lib.Seq.{take-suc, take_all, length-take-le}
-use Rattle.keycode.specs.declared.order.Order.{Order}
-use Rattle.keycode.specs.declared.order.Order.TheVariants.{Less, Equal, Greater}
 use Rattle.keycode.specs.Number.{be, num, num_from}
 use Rattle.keycode.specs.Buffer.{put}
 use Rattle.keycode.specs.Order.{compare_nat, compare_bytes, and_then}

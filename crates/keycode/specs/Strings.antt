@@ -1,6 +1,6 @@
 -- Byte strings inside keys. Document 01, 'Key bytes': each 00 of the string becomes 00 ff, then 00 00 ends it; any other byte
 -- after 00, or no end, is a fault. What a fault is and at which byte it shows is told here, for the decoder. Assumes nothing.
-use Rattle.std.specs.Prelude.{ℕ, zero, suc, ◌+◌, ◌-◌, Bool, true, false, List, [], ◌∷◌, ◌++◌, length, eqb, leb}
+use Rattle.std.specs.Prelude.{ℕ, zero, suc, ◌+◌, Bool, true, false, List, [], ◌∷◌, ◌++◌, length, eqb, leb}
 use Rattle.keycode.specs.Tests.{pick}
 use Rattle.keycode.specs.Limits.{max_key}
 use Rattle.keycode.specs.declared.refusal.Length.{Length}
@@ -8,7 +8,7 @@ use Rattle.keycode.specs.declared.refusal.Length.TheVariants.{Done, Refused}
 use Rattle.keycode.specs.declared.refusal.Refusal.TheVariants.{BadStore}
 use Rattle.keycode.specs.declared.strings.Fault.{Fault}
 use Rattle.keycode.specs.declared.strings.Reason.{Reason}
-use Rattle.keycode.specs.declared.strings.Reason.TheVariants.{TooFew, BadEscape, NoEnd, UnknownTag, LeftOver, OverLimit}
+use Rattle.keycode.specs.declared.strings.Reason.TheVariants.{BadEscape, NoEnd, OverLimit}
 use Rattle.keycode.specs.declared.strings.Step.{Step}
 use Rattle.keycode.specs.declared.strings.Step.TheVariants.{Byte, Closed, Bad}
 use Rattle.keycode.specs.declared.strings.Scanned.{Scanned}

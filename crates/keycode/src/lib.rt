@@ -1,6 +1,8 @@
 // The bytes of keys: their order, big-endian numbers, escaped strings and prefix ranges, and the six keys of the store, encoded and
 // decoded. It is toydb's encoding/keycode.rs and the Key of its storage/mvcc.rs, over lent buffers. The limits and the refusals of all
 // layers live here too.
+#![tactic(auto)]
+
 pub mod code;
 pub mod encode;
 pub mod key;

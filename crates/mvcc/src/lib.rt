@@ -1,5 +1,7 @@
 // The transactions: every public call of toydb's storage/mvcc.rs, with the types that they take and answer. Document 01,
 // 'Transactions'.
+#![tactic(auto)]
+
 mod admission;
 pub mod append;
 pub mod as_of;

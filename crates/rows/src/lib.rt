@@ -1,5 +1,7 @@
 // Typed keys: rows of up to eight fields whose kinds are named beforehand. It is the serde half of toydb's encoding/keycode.rs, over lent
 // buffers. Document 02, W5.
+#![tactic(auto)]
+
 mod decoding;
 mod encoding;
 mod fields;

@@ -1,4 +1,6 @@
 // A script of calls, run: each line is written again with what its last call answered. docs/SCRIPT.md has the words.
+#![tactic(auto)]
+
 mod calls;
 mod input;
 mod lines;

@@ -1,5 +1,7 @@
 // One kind of call made over and over on a large store, for oracle/bench to time. It is a library, so that whoever asks lends log and table:
 // arrays of a program's own lie on its stack, which is too small for a log of some megabytes.
+#![tactic(auto)]
+
 mod keys;
 mod reads;
 mod start;

@@ -5,15 +5,12 @@ use mathlib.Core.Path.{◌≡◌, refl, sym, ap, subst, ◌∙◌}
 use mathlib.Core.Bool.{Bool, true, false}
 use mathlib.Core.List.{List, [], ◌∷◌, ◌++◌, append_assoc, append-nil}
 use native.Mathlib.Omega.{arith}
-use native.Mathlib.Nat.{le_refl}
-use lib.ListN.{length, take, drop, get_or, length-append, length-take, length-drop, take-append-drop}
+use lib.ListN.{length, take, drop, get_or, length-append, length-drop, take-append-drop}
 use lib.Seq.{take_at, drop_at, take_all, length-take-le}
 use lib.Dec.{leb}
 use borrow.Author.Tests.{le-leb, leb-true}
-use Rattle.keycode.specs.declared.parts.Part.{Part}
 use Rattle.keycode.specs.declared.key.Key.{Key}
-use Rattle.keycode.specs.declared.key.Key.TheVariants.{NextVersion, TxnActive, TxnActiveSnapshot, TxnWrite, Version, Unversioned}
-use Rattle.keycode.specs.declared.key.Decoded.TheVariants.{Whole}
+use Rattle.keycode.specs.declared.key.Key.TheVariants.{NextVersion, TxnActive, TxnActiveSnapshot}
 use Rattle.keycode.specs.declared.key.Reading.{Reading}
 use Rattle.keycode.specs.declared.key.Reading.TheVariants.{Read, Faulty}
 use Rattle.keycode.specs.declared.strings.Reason.TheVariants.{TooFew, LeftOver}
@@ -22,7 +19,7 @@ use Rattle.keycode.specs.declared.strings.Scanned.TheVariants.{Ended, Broken}
 use Rattle.keycode.specs.Tests.{pick}
 use Rattle.keycode.specs.Number.{be, num}
 use Rattle.keycode.specs.Strings.{escape_body, escape, unescaped, scanned, fault}
-use Rattle.keycode.specs.key.Keys.{Fields, next_version, txn_active, txn_active_snapshot, txn_write, version, unversioned, tag_of, encode, user_key, exactly, string_at, on_ended, key_of, decode_why, forget, fields_of, placed}
+use Rattle.keycode.specs.key.Keys.{Fields, next_version, txn_active, txn_active_snapshot, txn_write, version, unversioned, encode, user_key, exactly, string_at, on_ended, key_of, decode_why, fields_of, placed}
 use Rattle.keycode.proofs.Basics.{nope}
 use Rattle.keycode.proofs.NumberLaws.{num-be, num_any, be-num, length-be, Bytes, bytes_take, bytes_drop}
 use Rattle.keycode.proofs.StringLaws.{escape-length, unescaped_body, scanned_body, scan_found, plain_byte}

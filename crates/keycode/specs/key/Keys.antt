@@ -1,10 +1,9 @@
 -- The six keys of the store: their bytes, and what bytes are a key or why they are none. Document 01, 'Key bytes'. Assumes nothing.
-use Rattle.std.specs.Prelude.{ℕ, zero, suc, ◌+◌, ◌-◌, List, [], ◌∷◌, ◌++◌, length, take, drop, eqb, leb}
+use Rattle.std.specs.Prelude.{ℕ, zero, suc, ◌+◌, ◌-◌, List, [], ◌∷◌, ◌++◌, length, take, drop, leb}
 use Rattle.keycode.specs.Tests.{pick}
 use Rattle.keycode.specs.Number.{be, num}
 use Rattle.keycode.specs.Strings.{escape_body, escape, unescaped, scanned, fault}
 use Rattle.keycode.specs.declared.refusal.Refusal.TheVariants.{BadStore}
-use Rattle.keycode.specs.declared.parts.Part.{Part}
 use Rattle.keycode.specs.declared.strings.Reason.TheVariants.{TooFew, UnknownTag, LeftOver}
 use Rattle.keycode.specs.declared.strings.Scanned.{Scanned}
 use Rattle.keycode.specs.declared.strings.Scanned.TheVariants.{Ended, Broken}
