@@ -7,7 +7,7 @@ use tape::format::layout::RECORD;
 use tape::{Taken, take};
 
 // The store's used length, which buffer is its log, and whether there is more to read.
-#[derive(Drop)]
+#[derive(Clone, Copy)]
 pub struct Place {
     pub used: usize,
     pub other: bool,

@@ -2,14 +2,14 @@
 use keycode::{Part, Refusal};
 
 // The place of a value in the log.
-#[derive(Drop)]
+#[derive(Clone, Copy)]
 pub enum Located {
     At(Part),
     Refused(Refusal),
 }
 
 // One end of a scan.
-#[derive(Drop)]
+#[derive(Clone, Copy)]
 pub enum Bound {
     Included,
     Excluded,
@@ -17,7 +17,7 @@ pub enum Bound {
 }
 
 // The places of a key and its value in the log.
-#[derive(Drop)]
+#[derive(Clone, Copy)]
 pub enum Stepped {
     Next { key: Part, value: Part },
     Refused(Refusal),

@@ -11,20 +11,20 @@ use crate::keydir::{Found, Slot, enter, find, leave};
 use keycode::Refusal;
 
 // The end of a log's entries, and how many of its table's slots are in use.
-#[derive(Drop)]
+#[derive(Clone, Copy)]
 pub struct Mark {
     pub used: usize,
     pub count: usize,
 }
 
 // The room that is left in a log.
-#[derive(Drop)]
+#[derive(Clone, Copy)]
 pub enum Room {
     Left(usize),
     Full,
 }
 
-#[derive(Drop)]
+#[derive(Clone, Copy)]
 pub enum Check {
     Fine,
     Refused(Refusal),

@@ -16,20 +16,20 @@ use crate::request::{Used, fits};
 use keycode::{Order, compare};
 
 // An entry of the log as a slot, and whether it is a tombstone.
-#[derive(Drop)]
+#[derive(Clone, Copy)]
 pub struct Seen {
     pub slot: Slot,
     pub gone: bool,
 }
 
-#[derive(Drop)]
+#[derive(Clone, Copy)]
 pub enum Ahead {
     Entry(Seen),
     Over,
 }
 
 // An entry that no agreeing table allows, one that lies before its slot's or needs none, or a slot's own.
-#[derive(Drop)]
+#[derive(Clone, Copy)]
 pub enum Judged {
     Wrong,
     Early,
@@ -37,7 +37,7 @@ pub enum Judged {
 }
 
 // How many entries are a slot's own.
-#[derive(Drop)]
+#[derive(Clone, Copy)]
 pub enum Walked {
     Broken,
     Met(usize),

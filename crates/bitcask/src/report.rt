@@ -10,7 +10,7 @@ use crate::request::{Used, fits};
 use keycode::Refusal;
 
 // Live keys, their key and value bytes, the used length, and the bytes that the live entries take. Garbage is the last two's difference.
-#[derive(Drop)]
+#[derive(Clone, Copy)]
 pub struct Counts {
     pub keys: usize,
     pub size: usize,
@@ -18,14 +18,14 @@ pub struct Counts {
     pub live: usize,
 }
 
-#[derive(Drop)]
+#[derive(Clone, Copy)]
 pub enum Counted {
     Done(Counts),
     Refused(Refusal),
 }
 
 // A sum that stops at a cap: words that were altered by hand could make any other wrap.
-#[derive(Drop)]
+#[derive(Clone, Copy)]
 pub enum Sum {
     Total(usize),
     Over,

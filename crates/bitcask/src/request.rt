@@ -7,12 +7,12 @@ use keycode::Refusal;
 use keycode::limits::MAX_LOG;
 
 // How many bytes of a log count.
-#[derive(Drop)]
+#[derive(Clone, Copy)]
 pub struct Used {
     pub len: usize,
 }
 
-#[derive(Drop)]
+#[derive(Clone, Copy)]
 pub enum Changed {
     Done(Used),
     Refused(Refusal),

@@ -6,14 +6,14 @@ use keycode::parts::clip;
 use rows::{Cell, Field, Kind, KindCell, Kinds, Row};
 
 // A field, and how many bytes of the texts are used.
-#[derive(Drop)]
+#[derive(Clone, Copy)]
 struct Made {
     field: Field,
     used: usize,
 }
 
 // The row of a request, and how many bytes of the texts its strings take.
-#[derive(Drop)]
+#[derive(Clone, Copy)]
 pub(crate) struct Asked {
     pub row: Row,
     pub used: usize,

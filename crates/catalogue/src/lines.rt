@@ -2,20 +2,20 @@
 use crate::hex::{byte_at, plus};
 
 // How far the block is used, and how many bytes of it were read.
-#[derive(Drop)]
+#[derive(Clone, Copy)]
 pub(crate) struct Input {
     pub at: usize,
     pub have: usize,
 }
 
-#[derive(Drop)]
+#[derive(Clone, Copy)]
 struct Next {
     input: Input,
     byte: u64,
 }
 
 // How many bytes a line has, its end not counted; at least the buffer's length where it has no more room, or no line ends any more.
-#[derive(Drop)]
+#[derive(Clone, Copy)]
 pub(crate) struct Line {
     pub input: Input,
     pub len: usize,

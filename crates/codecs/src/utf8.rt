@@ -5,7 +5,7 @@ ghost use Rattle.keycode.specs.Tests.{pick};
 ghost use Rattle.codecs.specs.Utf8.{span, table, within, begun, fed, ended, well_formed, never};
 ghost use Rattle.codecs.specs.States.{awaited_by};
 
-#[derive(Drop)]
+#[derive(Clone, Copy)]
 pub enum State {
     // between two sequences
     Start,

@@ -3,13 +3,13 @@
 ghost use Rattle.std.specs.Prelude.{◌≡◌, ◌<◌, ◌≤◌};
 
 // What was read: how far the whole entries go, or that a new key found no slot.
-#[derive(Drop)]
+#[derive(Clone, Copy)]
 pub enum Plain {
     Cut(usize),
     Full,
 }
 
-#[derive(Drop)]
+#[derive(Clone, Copy)]
 struct Whole {
     key: usize,
     place: usize,
@@ -19,13 +19,13 @@ struct Whole {
     end: usize,
 }
 
-#[derive(Drop)]
+#[derive(Clone, Copy)]
 enum Seen {
     Entry(Whole),
     Torn,
 }
 
-#[derive(Drop)]
+#[derive(Clone, Copy)]
 enum Went {
     On(usize),
     Over,

@@ -1,5 +1,5 @@
 // What the runs count, and the first case that differed.
-#[derive(Drop)]
+#[derive(Clone, Copy)]
 pub struct Case {
     pub entries: usize,
     pub code: usize,
@@ -7,7 +7,7 @@ pub struct Case {
     pub slots: usize,
 }
 
-#[derive(Drop)]
+#[derive(Clone, Copy)]
 pub struct Tally {
     pub logs: u64,
     pub openings: u64,

@@ -65,7 +65,7 @@ pub extern "C" fn tjaldrum_unescape(escaped: &[u8], out: &mut [u8]) -> u64
 const FIELDS: usize = 25;
 
 // A decoded key as four numbers.
-#[derive(Drop)]
+#[derive(Clone, Copy)]
 struct Split {
     kind: u8,
     version: u64,

@@ -19,7 +19,7 @@ use bitcask::{Changed, Used};
 use keycode::{Length, Refusal};
 
 // What came of an entry: there is none, none of the slots was free for its key, or where the next begins and how many slots are in use.
-#[derive(Drop)]
+#[derive(Clone, Copy)]
 pub enum Took {
     Over,
     Full,

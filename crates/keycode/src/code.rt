@@ -13,7 +13,7 @@ use crate::limits::KEY_BYTES;
 use crate::refusal::Length;
 
 // The first `len` bytes are the key's.
-#[derive(Drop)]
+#[derive(Clone, Copy)]
 pub struct Code {
     pub len: usize,
     pub bytes: [u8; KEY_BYTES],

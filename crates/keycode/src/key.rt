@@ -8,7 +8,7 @@ use crate::refusal::Refusal;
 use crate::strings::Fault;
 
 // A key with its fields; its string is a part of the bytes that it was decoded from.
-#[derive(Drop)]
+#[derive(Clone, Copy)]
 pub enum Key {
     NextVersion,
     TxnActive(u64),
@@ -19,14 +19,14 @@ pub enum Key {
 }
 
 // What decoding answers.
-#[derive(Drop)]
+#[derive(Clone, Copy)]
 pub enum Decoded {
     Whole(Key),
     Refused(Refusal),
 }
 
 // What decoding finds: the key, or the first fault.
-#[derive(Drop)]
+#[derive(Clone, Copy)]
 pub enum Reading {
     Read(Key),
     Faulty(Fault),

@@ -4,7 +4,7 @@ ghost use Rattle.keycode.specs.Order.{compare_bytes};
 
 use crate::number::eight_at;
 
-#[derive(Drop)]
+#[derive(Clone, Copy)]
 pub enum Order {
     Less,
     Equal,

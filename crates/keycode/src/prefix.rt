@@ -3,7 +3,7 @@ ghost use Rattle.std.specs.Prelude.{◌≡◌};
 ghost use Rattle.keycode.specs.Prefix.{prefix_end};
 
 // The end, excluded: the first `keep` bytes of the prefix and then the byte `last`; or that there is none.
-#[derive(Drop)]
+#[derive(Clone, Copy)]
 pub enum End {
     Unbounded,
     Raised { keep: usize, last: u8 },

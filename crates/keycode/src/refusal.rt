@@ -3,7 +3,7 @@
 ghost use Rattle.std.specs.Prelude.{◌≡◌};
 ghost use Rattle.keycode.specs.Refusals.{number_of};
 
-#[derive(Drop)]
+#[derive(Clone, Copy)]
 pub enum Refusal {
     Absent,
     ReadOnly,
@@ -21,7 +21,7 @@ pub enum Refusal {
 }
 
 // The answer of a call that writes bytes into a lent buffer: how many.
-#[derive(Drop)]
+#[derive(Clone, Copy)]
 pub enum Length {
     Done(usize),
     Refused(Refusal),

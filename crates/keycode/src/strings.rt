@@ -10,7 +10,7 @@ use crate::limits::MAX_KEY;
 use crate::refusal::{Length, Refusal};
 
 // Why bytes are no key.
-#[derive(Drop)]
+#[derive(Clone, Copy)]
 pub enum Reason {
     TooFew,
     BadEscape,
@@ -21,14 +21,14 @@ pub enum Reason {
 }
 
 // A reason, and the first byte that decides: the key's length where bytes are missing.
-#[derive(Drop)]
+#[derive(Clone, Copy)]
 pub struct Fault {
     pub reason: Reason,
     pub at: usize,
 }
 
 // What stands at a place of an escaped string: a byte of the string with the place after it, or the string's end.
-#[derive(Drop)]
+#[derive(Clone, Copy)]
 pub enum Step {
     Byte(u8, usize),
     Closed,
@@ -36,7 +36,7 @@ pub enum Step {
 }
 
 // The place of a string's closing 00 00.
-#[derive(Drop)]
+#[derive(Clone, Copy)]
 pub enum Scanned {
     Ended(usize),
     Broken(Fault),

@@ -14,7 +14,7 @@ use keycode::Refusal;
 use keycode::code::active_code;
 
 // A store that was entered with a handle whose transaction is open.
-#[derive(Drop)]
+#[derive(Clone, Copy)]
 pub enum Admitted {
     Fine(Mark),
     Refused(Refusal),

@@ -7,7 +7,7 @@ use bitcask::{Changed, Used};
 use keycode::Refusal;
 
 // The used length then, and the handle; a blank one beside a refusal.
-#[derive(Drop)]
+#[derive(Clone, Copy)]
 pub struct Begun {
     pub answer: Changed,
     pub handle: Handle,

@@ -13,7 +13,7 @@ use bitcask::{Changed, Used};
 use keycode::code::active_code;
 
 // Whether the versions that were written stay.
-#[derive(Drop)]
+#[derive(Clone, Copy)]
 pub enum Way {
     Commit,
     Rollback,

@@ -6,7 +6,7 @@ ghost use Rattle.mvcc.specs.handle.Handles.{memb, rising, sees, lowest_of, sound
 use keycode::limits::MAX_OPEN;
 
 // The versions open at its begin are the first `count` of `set`, rising.
-#[derive(Drop)]
+#[derive(Clone, Copy)]
 pub struct Handle {
     pub version: u64,
     pub read_only: bool,

@@ -23,28 +23,28 @@ pub(crate) const VALUE_TAG: u8 = 1;
 
 pub(crate) const GONE_TAG: u8 = 0;
 
-#[derive(Drop)]
+#[derive(Clone, Copy)]
 pub enum VersionRead {
     Read(u64),
     Bad,
 }
 
 // A value's bytes start behind the first `skip` of its payload.
-#[derive(Drop)]
+#[derive(Clone, Copy)]
 pub enum ValueRead {
     Value { skip: usize },
     Gone,
     Bad,
 }
 
-#[derive(Drop)]
+#[derive(Clone, Copy)]
 pub enum SetAnswer {
     Fine,
     Refused(Refusal),
 }
 
 // The handle with the set that was read; a blank one beside a refusal.
-#[derive(Drop)]
+#[derive(Clone, Copy)]
 pub struct SetRead {
     pub answer: SetAnswer,
     pub handle: Handle,

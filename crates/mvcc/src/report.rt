@@ -9,13 +9,13 @@ use bitcask::engine::{Entered, enter};
 use keycode::Refusal;
 
 // NextVersion less 1, and the live keys that begin with the tag of TxnActive.
-#[derive(Drop)]
+#[derive(Clone, Copy)]
 pub struct Versions {
     pub last: u64,
     pub open: usize,
 }
 
-#[derive(Drop)]
+#[derive(Clone, Copy)]
 pub enum Stated {
     Done(Versions),
     Refused(Refusal),

@@ -22,14 +22,14 @@ use keycode::parts::clip;
 const ACTIVE_TAG: u8 = 1;
 
 // How many versions are open, or that a key is none of theirs.
-#[derive(Drop)]
+#[derive(Clone, Copy)]
 pub enum Tally {
     Open(usize),
     Bad,
 }
 
 // Beside the count the handle with the versions, as many as it has room for; a blank one where the store is bad.
-#[derive(Drop)]
+#[derive(Clone, Copy)]
 pub struct Seen {
     pub tally: Tally,
     pub handle: Handle,

@@ -18,7 +18,7 @@ use bitcask::engine::{Mark, Near, Spot};
 use keycode::{Decoded, Key, Part, decode};
 
 // Hidden goes on to the record below; the others decide.
-#[derive(Drop)]
+#[derive(Clone, Copy)]
 pub enum Seen {
     Hidden,
     Gone,
@@ -27,14 +27,14 @@ pub enum Seen {
 }
 
 // A key that is no Version key, or where the escaped bytes of its user key stand in it, and its version.
-#[derive(Drop)]
+#[derive(Clone, Copy)]
 pub enum Label {
     None,
     Of(Part, u64),
 }
 
 // A row whose key is no Version key, or the place of its user key's escaped bytes and what it says.
-#[derive(Drop)]
+#[derive(Clone, Copy)]
 pub enum Record {
     Junk,
     Good(Part, Seen),

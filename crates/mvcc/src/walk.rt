@@ -16,7 +16,7 @@ use keycode::{Order, Part, Refusal, compare};
 
 // Before the first group; within one, with what it says so far and the place of the key that said it; the same with a value and, behind
 // it, a key that does not decode; and past the end of the step.
-#[derive(Drop)]
+#[derive(Clone, Copy)]
 pub enum Walk {
     Start,
     Within(Part, Seen),

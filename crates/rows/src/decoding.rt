@@ -15,14 +15,14 @@ use keycode::parts::clip;
 use keycode::strings::{Step, step_at};
 
 // A field and the index behind it, or why there is none.
-#[derive(Drop)]
+#[derive(Clone, Copy)]
 pub enum Taken {
     Read(Field, usize),
     Refused(Denial),
 }
 
 // The index of a string's closing 00 00, and whether the string is UTF-8.
-#[derive(Drop)]
+#[derive(Clone, Copy)]
 pub enum Strung {
     Ended(usize, bool),
     Broken,

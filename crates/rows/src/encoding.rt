@@ -16,7 +16,7 @@ use keycode::parts::clip;
 use keycode::strings::{escape_into, escaped_byte_len};
 
 // What is left of a room.
-#[derive(Drop)]
+#[derive(Clone, Copy)]
 pub enum Room {
     Left(usize),
     Short,

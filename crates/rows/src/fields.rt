@@ -4,7 +4,7 @@ use keycode::Part;
 
 // A field's value. A float is its 64-bit pattern. Bytes and a text are a part of the lent slice: the string itself where a row is
 // encoded, its escaped bytes with no end where one was decoded.
-#[derive(Drop)]
+#[derive(Clone, Copy)]
 pub enum Field {
     Flag(bool),
     U64(u64),
@@ -14,43 +14,43 @@ pub enum Field {
     Text(Part),
 }
 
-#[derive(Drop)]
+#[derive(Clone, Copy)]
 pub struct Cell {
     pub field: Field,
 }
 
-#[derive(Drop)]
+#[derive(Clone, Copy)]
 pub struct KindCell {
     pub kind: Kind,
 }
 
 // The first `len` fields, and the first `len` kinds; at most eight.
-#[derive(Drop)]
+#[derive(Clone, Copy)]
 pub struct Row {
     pub cells: [Cell; 8],
     pub len: usize,
 }
 
-#[derive(Drop)]
+#[derive(Clone, Copy)]
 pub struct Kinds {
     pub cells: [KindCell; 8],
     pub len: usize,
 }
 
-#[derive(Drop)]
+#[derive(Clone, Copy)]
 pub enum RowLength {
     Done(usize),
     Denied(Denial),
 }
 
-#[derive(Drop)]
+#[derive(Clone, Copy)]
 pub enum RowCheck {
     Whole,
     Denied(Denial),
 }
 
 // A decoded row; with a refusal it is empty. (An enum may not hold an array, so the row stands beside the answer.)
-#[derive(Drop)]
+#[derive(Clone, Copy)]
 pub struct RowRead {
     pub check: RowCheck,
     pub row: Row,

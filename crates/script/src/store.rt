@@ -10,7 +10,7 @@ pub(crate) const HANDS: usize = 16;
 
 // Of the arrays the first `size` bytes, the first `words` words and the first `room` bytes of the spare buffer are lent; a compaction
 // goes into the spare buffer. `number` is what the last call answered.
-#[derive(Drop)]
+#[derive(Clone, Copy)]
 pub struct Store {
     pub size: usize,
     pub words: usize,

@@ -17,7 +17,7 @@ use keycode::{Length, Part, Refusal, number_of, unescape};
 use mvcc::{Handle, scan_prefix_step};
 
 // Whether a pair was shown, with the length of its key, or the scan is over.
-#[derive(Drop)]
+#[derive(Clone, Copy)]
 pub enum Pace {
     Pair(usize),
     Over,

@@ -8,14 +8,14 @@ use bitcask::{Changed, Used};
 use keycode::Refusal;
 
 // The used length, whether the second of the two lent buffers is the log, and how many bytes of answers were laid.
-#[derive(Drop)]
+#[derive(Clone, Copy)]
 pub struct Turn {
     pub used: Used,
     pub other: bool,
     pub len: usize,
 }
 
-#[derive(Drop)]
+#[derive(Clone, Copy)]
 pub enum Taken {
     Done(Turn),
     Refused(Refusal),

@@ -2,7 +2,7 @@
 // keys are asked for.
 
 // How many keys the store has, how many of a key's 56 bytes are left out, and whether keys are asked for that are not there (not 0).
-#[derive(Drop)]
+#[derive(Clone, Copy)]
 pub struct Keys {
     pub count: u64,
     pub skip: usize,

@@ -12,7 +12,7 @@ use bitcask::{Changed, Used};
 use mvcc::Handle;
 
 // What is asked: the call, how often, on which keys, and how many transactions are open before it.
-#[derive(Drop)]
+#[derive(Clone, Copy)]
 struct Request {
     call: u64,
     times: u64,

@@ -2,7 +2,7 @@
 use bitcask::{Changed, Used};
 use mvcc::Handle;
 
-#[derive(Drop)]
+#[derive(Clone, Copy)]
 pub struct Begun {
     pub used: Used,
     pub handle: Handle,

@@ -7,13 +7,13 @@ use crate::request::{Used, fits};
 use keycode::Refusal;
 
 // A store that was entered: the used length with all that it carries, and how many rows there are.
-#[derive(Drop)]
+#[derive(Clone, Copy)]
 pub struct Mark {
     pub used: Used,
     pub count: usize,
 }
 
-#[derive(Drop)]
+#[derive(Clone, Copy)]
 pub enum Entered {
     In(Mark),
     Refused(Refusal),

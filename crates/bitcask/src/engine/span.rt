@@ -17,7 +17,7 @@ use keycode::limits::KEY_BYTES;
 use keycode::{End, prefix_end};
 
 // The rows from the first spot on, up to the second, which is not one of them. There are none where they meet.
-#[derive(Drop)]
+#[derive(Clone, Copy)]
 pub struct Span {
     pub from: Spot,
     pub to: Spot,

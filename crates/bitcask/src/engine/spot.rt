@@ -9,13 +9,13 @@ use crate::engine::mark::Mark;
 use crate::keydir::{Found as Place, find as find_slot};
 use crate::rank::{from_bound, upto_bound};
 
-#[derive(Drop)]
+#[derive(Clone, Copy)]
 pub struct Spot {
     pub(crate) number: usize,
 }
 
 // The row that has a key, or the one before which the key belongs.
-#[derive(Drop)]
+#[derive(Clone, Copy)]
 pub enum Found {
     At(Spot),
     Absent(Spot),

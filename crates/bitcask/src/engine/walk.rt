@@ -13,7 +13,7 @@ use crate::engine::spot::Spot;
 use keycode::{Order, compare};
 
 // A row beside a place, or none that the bound admits.
-#[derive(Drop)]
+#[derive(Clone, Copy)]
 pub enum Near {
     At(Spot),
     None,

@@ -4,7 +4,7 @@ ghost use Rattle.std.specs.Prelude.{◌≡◌};
 ghost use Rattle.bitcask.specs.entry.Length.{signed_of, len_of, length_of};
 
 // How many bytes the value has, or that there is none.
-#[derive(Drop)]
+#[derive(Clone, Copy)]
 pub enum Len {
     Bytes(usize),
     Gone,

@@ -7,7 +7,7 @@ use keycode::number::get_number;
 use keycode::parts::clip;
 
 // A whole entry with a value, a whole tombstone, or neither: the used length, or an entry that runs past it.
-#[derive(Drop)]
+#[derive(Clone, Copy)]
 pub enum Read {
     Set { klen: usize, vlen: usize },
     Del { klen: usize },

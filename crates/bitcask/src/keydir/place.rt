@@ -7,7 +7,7 @@ use crate::keydir::slots::{SLOT_WORDS, Slot, insert, key_of, remove, replace, sl
 use keycode::{Order, compare};
 
 // The slot that has the key, or the one before which the key belongs.
-#[derive(Drop)]
+#[derive(Clone, Copy)]
 pub enum Found {
     At(usize),
     Before(usize),

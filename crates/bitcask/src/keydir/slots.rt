@@ -12,7 +12,7 @@ use keycode::parts::clip;
 pub const SLOT_WORDS: usize = 3;
 
 // A slot's words as they stand in the table: the entry's offset plus 1, so that 0 is a free slot, and the lengths of its key and value.
-#[derive(Drop)]
+#[derive(Clone, Copy)]
 pub struct Slot {
     pub place: u32,
     pub klen: u32,

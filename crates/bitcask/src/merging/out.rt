@@ -8,7 +8,7 @@ use crate::keydir::words::clear;
 use crate::keydir::{Found, SLOT_WORDS, find, key_of, slot_at};
 use crate::merging::moves::move_down;
 
-#[derive(Drop)]
+#[derive(Clone, Copy)]
 pub struct Gap {
     pub to: usize,
     pub from: usize,

@@ -54,7 +54,7 @@ pub(crate) fn count_new(pend: &[u32], waiting: usize) -> usize
 }
 
 // Where the slots that are left to place end, and how many free slots follow.
-#[derive(Drop)]
+#[derive(Clone, Copy)]
 struct Room {
     end: usize,
     left: usize,

@@ -14,7 +14,7 @@ use crate::recovery::waiting::{Held, MAX_WAITING, Took, make_room, settle, take_
 
 // What came of it: an entry's new key found no free slot, and the table is clear; or where the next entry begins, how many slots are
 // in use, and how many entries more might have been passed.
-#[derive(Drop)]
+#[derive(Clone, Copy)]
 pub enum Passed {
     Full,
     On {

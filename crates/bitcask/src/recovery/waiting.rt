@@ -16,7 +16,7 @@ use crate::merging::put::is_gone;
 pub(crate) const MAX_WAITING: usize = 256;
 
 // The slots in use in the table, how many changes wait, and how many keys table and changes have together.
-#[derive(Drop)]
+#[derive(Clone, Copy)]
 pub struct Held {
     pub count: usize,
     pub waiting: usize,
@@ -24,7 +24,7 @@ pub struct Held {
 }
 
 // What came of an entry: there is none, none of the slots was free for its key, or where the next begins and what is held then.
-#[derive(Drop)]
+#[derive(Clone, Copy)]
 pub enum Took {
     Over,
     Full,

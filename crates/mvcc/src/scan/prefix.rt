@@ -19,7 +19,7 @@ use keycode::limits::KEY_BYTES;
 use keycode::{End, Refusal, prefix_end};
 
 // An upper bound of engine keys.
-#[derive(Drop)]
+#[derive(Clone, Copy)]
 pub struct Upper {
     pub bound: Bound,
     pub code: Code,

@@ -6,7 +6,7 @@ use keycode::parts::clip;
 
 // A bound is the name that set it, or AFTER where there is none. A scan has no words behind it: `first` and `second` are the keys of its
 // bounds. `loud` says that the answer is shown.
-#[derive(Drop)]
+#[derive(Clone, Copy)]
 pub struct Asked {
     pub name: usize,
     pub lower: usize,

@@ -4,14 +4,14 @@ ghost use Rattle.std.specs.Prelude.{◌<◌};
 
 use keycode::number::put_number;
 
-#[derive(Drop)]
+#[derive(Clone, Copy)]
 pub struct Number {
     pub value: u64,
     pub end: usize,
 }
 
 // How far a word is read, and how many bytes it gave.
-#[derive(Drop)]
+#[derive(Clone, Copy)]
 struct Spelled {
     read: usize,
     made: usize,

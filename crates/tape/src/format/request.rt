@@ -6,7 +6,7 @@ ghost use Rattle.tape.specs.format.Requests.{fields_of, between as betweenBy, sl
 use crate::format::layout::{KEY_AT, KEY_ROOM, VALUE_AT, VALUE_ROOM};
 use keycode::number::get_number;
 
-#[derive(Drop)]
+#[derive(Clone, Copy)]
 pub struct Request {
     pub command: u8,
     pub slot: usize,
