@@ -4,10 +4,10 @@ use borrow.Author.Rules.{rules}
 use native.Mathlib.Omega.{arith}
 use Prim.Native.Nat.{◌+◌, ◌-◌, ◌*◌}
 use mathlib.Core.Path.{◌∙◌}
-use Rattle.bitcask.specs.keydir.Slots.{slotWords, slots_of}
+use Rattle.bitcask.specs.keydir.Slots.{slot_words, slots_of}
 use Rattle.bitcask.proofs.keydir.WordLaws.{cleared, cleared-long}
-use Rattle.bitcask.proofs.keydir.SlotLaws.{slot-at-is, slots_length}
-use Rattle.bitcask.proofs.merging.OutLaws.{Taking, taking-start, taking-turn, taking-end}
+use Rattle.bitcask.proofs.keydir.SlotLaws.{slot_at_is, slots_length}
+use Rattle.bitcask.proofs.merging.OutLaws.{Taking, taking_start, taking_turn, taking_end}
 use Rattle.bitcask.proofs.merging.out.take_all.Statement.{statement}
 use Rattle.bitcask.proofs.merging.out.take_all.Tie as tie
 
@@ -18,7 +18,7 @@ abbrev decreases-loop : tie.decreases-loop
 decreases-loop log table₀ count pend waiting to₀ from₀ p₀ table to from p = waiting - p
 
 loop-holds : tie.Need-loop-init invariant-loop decreases-loop
-loop-holds c = let a = c.before.before.before.args in taking-start a.log.now a.table.now a.count (slots_of a.waiting a.pend.now)
+loop-holds c = let a = c.before.before.before.args in taking_start a.log.now a.table.now a.count (slots_of a.waiting a.pend.now)
 
 take-one-requires : tie.Need-take-one-requires invariant-loop decreases-loop
 take-one-requires c κs = let w = c.before.before.before.before.loop.invariant in (w.order, w.within, omega (arith, w.long))
@@ -27,8 +27,8 @@ loop-again : tie.Need-loop-preserved invariant-loop decreases-loop
 loop-again c =
     let l = c.before.before.before.before.before.before.before.loop in
     let a = c.before.before.before.before.before.before.before.before.before.before.before.args in
-    taking-turn l.invariant _ _ _ _ _ (omega (arith, slots_length a.waiting a.pend.now))
-    (c.before.before.before.before.before.slot_at.ensures ∙ slot-at-is a.waiting a.pend.now l.p (omega arith))
+    taking_turn l.invariant _ _ _ _ _ (omega (arith, slots_length a.waiting a.pend.now))
+    (c.before.before.before.before.before.slot_at.ensures ∙ slot_at_is a.waiting a.pend.now l.p (omega arith))
     c.before.before.before.key_of.ensures c.before.before.take-one.ensures
 
 mul-move-down : tie.Need-overflow-mul-move-down invariant-loop decreases-loop
@@ -67,7 +67,7 @@ same_length c =
     let w = l.invariant in
     let m = c.before.before.before.before.before.before.move_down in
     let n = c.before.before.before.before.before.before.before.before.before.before.before.before.before.args.count in
-    cleared-long m.new.0 (slotWords * (l.to + (n - l.from))) (slotWords * n) (omega (arith, w.within, w.order)) (omega (arith, w.long, m.auto.0))
+    cleared-long m.new.0 (slot_words * (l.to + (n - l.from))) (slot_words * n) (omega (arith, w.within, w.order)) (omega (arith, w.long, m.auto.0))
     c.before.before.clear.ensures ∙ m.auto.0 ∙ w.long
 
 returns : tie.Need-returns invariant-loop decreases-loop
@@ -75,7 +75,7 @@ returns c =
     let w = c.before.before.before.before.before.before.before.before.before.loop.invariant in
     let m = c.before.before.before.before.before.before.move_down in
     let s = c.before.before.before.before.before.before.before.before.before.before.before.before.before in
-    taking-end w s.requires.0 (omega (arith, slots_length s.args.waiting s.args.pend.now))
+    taking_end w s.requires.0 (omega (arith, slots_length s.args.waiting s.args.pend.now))
     m.ensures (cleared m.new.0 _ _ (omega (arith, w.within, w.order)) (omega (arith, w.long, m.auto.0)) c.before.before.clear.ensures)
 
 pub take_all_spec : {M : Type 1} → statement M

@@ -1,6 +1,6 @@
 -- `take_one` moves the slots before the key's down over the gap.
 use native.Mathlib.Omega.{arith}
-use Rattle.bitcask.proofs.merging.OutLaws.{part-place, one-within, one-stays, one-takes}
+use Rattle.bitcask.proofs.merging.OutLaws.{part_place, one_within, one_stays, one_takes}
 use borrow.Author.Rules.{rules}
 use Rattle.bitcask.proofs.merging.out.take_one.Statement.{statement}
 use Rattle.bitcask.proofs.merging.out.take_one.Tie as tie
@@ -11,7 +11,7 @@ mul-move-down c =
     let a = s.args in
     omega (
       arith,
-      one-within a.log.now a.table.now a.count a.gap.to a.gap.from a.key.now s.requires.0 s.requires.1 s.requires.2 (part-place
+      one_within a.log.now a.table.now a.count a.gap.to a.gap.from a.key.now s.requires.0 s.requires.1 s.requires.2 (part_place
           a.log.now a.table.now a.count a.gap.from a.key.now c.before.before.before.before.find.ensures) _ c.before.before.found.given.1,
     )
 
@@ -21,7 +21,7 @@ add-move-down c =
     let a = s.args in
     omega (
       arith,
-      one-within a.log.now a.table.now a.count a.gap.to a.gap.from a.key.now s.requires.0 s.requires.1 s.requires.2 (part-place
+      one_within a.log.now a.table.now a.count a.gap.to a.gap.from a.key.now s.requires.0 s.requires.1 s.requires.2 (part_place
           a.log.now a.table.now a.count a.gap.from a.key.now c.before.before.before.before.find.ensures) _ c.before.before.found.given.1,
     )
 
@@ -29,7 +29,7 @@ move-down-requires : tie.Need-move-down-requires
 move-down-requires c κs =
     let s = c.before.before.before.before.before.before.before.before.before.before.before.before.before in
     let a = s.args in
-    let h = one-within a.log.now a.table.now a.count a.gap.to a.gap.from a.key.now s.requires.0 s.requires.1 s.requires.2 (part-place a.log.now
+    let h = one_within a.log.now a.table.now a.count a.gap.to a.gap.from a.key.now s.requires.0 s.requires.1 s.requires.2 (part_place a.log.now
     a.table.now a.count a.gap.from a.key.now c.before.before.before.before.before.find.ensures) _ c.before.before.before.found.given.1 in
     (omega arith, omega arith, omega arith)
 
@@ -39,7 +39,7 @@ add-t19 c =
     let a = s.args in
     omega (
       arith,
-      one-within a.log.now a.table.now a.count a.gap.to a.gap.from a.key.now s.requires.0 s.requires.1 s.requires.2 (part-place
+      one_within a.log.now a.table.now a.count a.gap.to a.gap.from a.key.now s.requires.0 s.requires.1 s.requires.2 (part_place
           a.log.now a.table.now a.count a.gap.from a.key.now c.before.before.before.before.before.before.before.before.before.find.ensures) _
           c.before.before.before.before.before.before.before.found.given.1,
     )
@@ -50,7 +50,7 @@ add-t21 c =
     let a = s.args in
     omega (
       arith,
-      one-within a.log.now a.table.now a.count a.gap.to a.gap.from a.key.now s.requires.0 s.requires.1 s.requires.2 (part-place
+      one_within a.log.now a.table.now a.count a.gap.to a.gap.from a.key.now s.requires.0 s.requires.1 s.requires.2 (part_place
           a.log.now a.table.now a.count a.gap.from a.key.now
           c.before.before.before.before.before.before.before.before.before.before.find.ensures) _
           c.before.before.before.before.before.before.before.before.found.given.1,
@@ -62,7 +62,7 @@ add-t20 c =
     let a = s.args in
     omega (
       arith,
-      one-within a.log.now a.table.now a.count a.gap.to a.gap.from a.key.now s.requires.0 s.requires.1 s.requires.2 (part-place
+      one_within a.log.now a.table.now a.count a.gap.to a.gap.from a.key.now s.requires.0 s.requires.1 s.requires.2 (part_place
           a.log.now a.table.now a.count a.gap.from a.key.now
           c.before.before.before.before.before.before.before.before.before.before.find.ensures) _
           c.before.before.before.before.before.before.before.before.found.given.1,
@@ -72,7 +72,7 @@ returns : tie.Need-returns
 returns c =
     let s = c.before.before.before.before.before.before.before.before.before.before.before.before.before.before.before.before.before.before in
     let a = s.args in
-    one-takes a.log.now a.table.now a.count a.gap.to a.gap.from a.key.now s.requires.0 s.requires.1 s.requires.2 (part-place a.log.now
+    one_takes a.log.now a.table.now a.count a.gap.to a.gap.from a.key.now s.requires.0 s.requires.1 s.requires.2 (part_place a.log.now
     a.table.now a.count a.gap.from a.key.now c.before.before.before.before.before.before.before.before.before.before.find.ensures) _
     c.before.before.before.before.before.before.before.before.found.given.1 c.before.before.before.before.move_down.ensures
 
@@ -80,7 +80,7 @@ returns-2 : tie.Need-returns-2
 returns-2 c =
     let s = c.before.before.before.before.before.before.before.before.before.before in
     let a = s.args in
-    one-stays a.log.now a.table.now a.count a.gap.to a.gap.from a.key.now s.requires.0 s.requires.1 s.requires.2 (part-place a.log.now
+    one_stays a.log.now a.table.now a.count a.gap.to a.gap.from a.key.now s.requires.0 s.requires.1 s.requires.2 (part_place a.log.now
     a.table.now a.count a.gap.from a.key.now c.before.before.find.ensures) _ c.enum_told.given.1
 
 pub take-one-spec : {M : Type 1} → statement M
