@@ -13,7 +13,7 @@ use Rattle.keycode.proofs.Basics.{nope}
 use Rattle.keycode.proofs.OrderLaws.{flip, compare_flip, compare_equal, compare_refl}
 use Rattle.bitcask.specs.declared.keydir.slots.Slot.{Slot}
 use Rattle.bitcask.specs.keydir.Slots.{key_of}
-use Rattle.bitcask.specs.keydir.Place.{All, all_more, Sorted, sorted_none, sorted_more}
+use Rattle.bitcask.specs.keydir.Place.{All, all_more, Sorted, sorted_none, sorted_more, all_none}
 use Rattle.bitcask.proofs.check.LastLaws.{slot_for}
 
 pub data Mem (x : Slot) : List Slot → Type 0 where
@@ -53,6 +53,7 @@ module _ {x : Slot} where
   in_whole (mem_there p) (mem_there q) = mem_there (in_whole p q)
 
 pub all_mem : {P : Slot → Type 0} {x : Slot} {xs : List Slot} → All P xs → Mem x xs → P x
+all_mem {P = P} all_none x4 = elim x4 [ ]
 all_mem (all_more p r) mem_here = p
 all_mem (all_more p r) (mem_there m) = all_mem r m
 
@@ -67,17 +68,20 @@ module _ (log : List ℕ) where
 
   all_without : {P : Slot → Type 0} {x : Slot} {xs : List Slot} → All P xs → (p : Mem x xs) → All P (without p)
   unfolding without
+  all_without {P = P} all_none p = elim p [ ]
   all_without (all_more h r) mem_here = r
   all_without (all_more h r) (mem_there p) = all_more h (all_without r p)
 
   pub sorted-without : {x : Slot} {xs : List Slot} → Sorted log xs → (p : Mem x xs) → Sorted log (without p)
   unfolding without
+  sorted-without sorted_none p = elim p [ ]
   sorted-without (sorted_more a r) mem_here = r
   sorted-without (sorted_more a r) (mem_there p) = sorted_more (all_without a p) (sorted-without r p)
 
   -- what is taken out stood there once
   pub apart : {x y : Slot} {xs : List Slot} → Sorted log xs → (p : Mem x xs) → Mem y (without p) → x ≡ y → ⊥
   unfolding without
+  apart {y = y} sorted_none p q e = elim p [ ]
   apart (sorted_more a r) mem_here q e = never_under (all_mem a q) e
   apart (sorted_more a r) (mem_there p) mem_here e = never_under (all_mem a p) (sym e)
   apart (sorted_more a r) (mem_there p) (mem_there q) e = apart r p q e
@@ -101,6 +105,7 @@ module _ (log : List ℕ) where
 
   pub mem_for : {s : Slot} {ss : List Slot} → Sorted log ss → Mem s ss → slot_for log (key_of log s) ss ≡ some s
   unfolding slot_for
+  mem_for {s = s} sorted_none x3 = elim x3 [ ]
   mem_for {s} (sorted_more a r) mem_here = rw (compare_refl (key_of log s))
   mem_for {s} (sorted_more a r) (mem_there m) = rw (all_mem a m) (mem_for r m)
 

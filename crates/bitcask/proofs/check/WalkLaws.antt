@@ -215,6 +215,7 @@ module _ (log : List ℕ) (used : ℕ) (ss : List Slot) (q : Sorted log ss) wher
 
       held_last : {at : ℕ} {is : List Item} (n : ℕ) → Chain used at is → walked at is ≡ Met n → key_of log s ≡ k → Holds s is → (o : Option Slot) → last_of log k is o ≡ some s
       unfolding last_of
+      held_last n (chain_none {at = at}) w e x10 o = elim x10 [ ]
       held_last {at} n (chain_more {i = i} {is = is} st c) w e (holds_there h) o =
           let r = turned_rest log used ss (turned log used ss at i is n w) in
           held_last r.0 c r.1 e h (by_order (compare_bytes (key_i i) k) o (leaves log k i) o)

@@ -1,0 +1,25 @@
+-- `append_del` finds the key's place, lays the tombstone and takes its slot out.
+use Rattle.bitcask.specs.entry.Entry.{del as delEntry}
+use Rattle.bitcask.proofs.change.AppendLaws.{found_among, appended-is, del_becomes}
+use Rattle.bitcask.proofs.append.append_del.Goals as goal
+
+pub find-found-requires : goal.find-found-requires
+find-found-requires c = c.requires.2
+
+pub put_del-used-requires : goal.put_del-used-requires
+put_del-used-requires c = (c.requires.0, c.requires.1)
+
+pub leave-n-requires : goal.leave-n-requires
+leave-n-requires c = (found_among c.args.log.now c.args.key.now c.args.table.now _ _ c.find-found.ensures, c.requires.2)
+
+pub shape_of-log : goal.shape_of-log
+shape_of-log c = c.put_del-used.auto.log
+
+pub shape_of-table : goal.shape_of-table
+shape_of-table c = c.leave-n.auto.table
+
+pub returns : goal.returns
+returns c =
+    let a = c.args in
+    appended-is a.log.now a.table.now a.mark.used a.mark.count (delEntry a.key.now) _ _ _ _ c.put_del-used.ensures.1 c.put_del-used.ensures.0
+    (del_becomes a.log.now a.table.now a.mark.used a.mark.count a.key.now _ _ _ c.find-found.ensures c.leave-n.ensures)

@@ -1,0 +1,15 @@
+-- `fresh`: a key that has a slot wants none.
+use mathlib.Core.Path.{◌∙◌, ap, sym}
+use Rattle.bitcask.specs.keydir.Slots.{slots_of}
+use Rattle.bitcask.specs.change.Append.{wants}
+use Rattle.bitcask.proofs.change.AppendLaws.{fresh_is}
+use Rattle.bitcask.proofs.append.fresh.Goals as goal
+
+pub find-requires : goal.find-requires
+find-requires c = c.requires
+
+pub returns-in-At : goal.returns-in-At
+returns-in-At c = ap wants (sym c.in-At.is) ∙ fresh_is c.args.log.now c.args.key.now (slots_of c.args.count c.args.table.now) _ c.find.ensures
+
+pub returns-in-Before : goal.returns-in-Before
+returns-in-Before c = ap wants (sym c.in-Before.is) ∙ fresh_is c.args.log.now c.args.key.now (slots_of c.args.count c.args.table.now) _ c.find.ensures

@@ -1,0 +1,19 @@
+-- `room_after` takes an entry's bytes off the room, one length at a time.
+use Rattle.bitcask.proofs.change.AppendLaws.{room-full, room_left, room-none}
+use native.Mathlib.Omega.{arith}
+use Rattle.bitcask.proofs.append.room_after.Goals as goal
+
+pub returns-then-n-lt8 : goal.returns-then-n-lt8
+returns-then-n-lt8 c = room-full c.args.room _ c.args.klen c.args.vlen c.in-Left.is (omega arith)
+
+pub returns-then-n-klen : goal.returns-then-n-klen
+returns-then-n-klen c = room-full c.args.room _ c.args.klen c.args.vlen c.in-Left.is (omega arith)
+
+pub returns-then-n-klen-2 : goal.returns-then-n-klen-2
+returns-then-n-klen-2 c = room-full c.args.room _ c.args.klen c.args.vlen c.in-Left.is (omega arith)
+
+pub returns-in-Full : goal.returns-in-Full
+returns-in-Full c = room-none c.args.room c.args.klen c.args.vlen c.in-Full.is
+
+pub returns-else-n-klen-2 : goal.returns-else-n-klen-2
+returns-else-n-klen-2 c = room_left c.args.room _ c.args.klen c.args.vlen c.in-Left.is _ (omega arith) (omega arith)

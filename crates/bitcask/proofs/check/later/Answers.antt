@@ -1,0 +1,22 @@
+use Prim.Native.Nat.{◌-◌}
+use Rattle.bitcask.proofs.check.TellLaws.{looking_start, looking-over, looking-here, looking-next, looking_less}
+use borrow.Author.Rules.{rules}
+use Rattle.bitcask.proofs.check.later.Goals as goal
+
+pub loop-e-init : goal.loop-e-init
+loop-e-init c = looking_start _ _ _ _ c.requires.0
+
+pub entry_from-requires : goal.entry_from-requires
+entry_from-requires c = let w = c.loop-e.invariant.within in search rules
+
+pub returns-in-Over : goal.returns-in-Over
+returns-in-Over c = looking-over c.loop-e.invariant c.entry_from.ensures c.in-Over.is
+
+pub returns-then-same_key : goal.returns-then-same_key
+returns-then-same_key c = looking-here c.loop-e.invariant c.entry_from.ensures _ c.in-Entry.is c.same_key.ensures c.if-same_key.true
+
+pub loop-e-smaller : goal.loop-e-smaller
+loop-e-smaller c = looking_less c.loop-e.invariant c.entry_from.ensures _ c.in-Entry.is _ c.past-at.ensures
+
+pub loop-e-preserved : goal.loop-e-preserved
+loop-e-preserved c = looking-next c.loop-e.invariant c.entry_from.ensures _ c.in-Entry.is _ c.past-at.ensures c.same_key.ensures c.if-same_key.false

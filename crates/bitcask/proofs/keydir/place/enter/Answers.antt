@@ -1,0 +1,20 @@
+-- `enter` replaces a slot that is there, and inserts one that is not where there is room.
+use Rattle.bitcask.proofs.keydir.HalveLaws.{among-at, among-before}
+use Rattle.bitcask.proofs.keydir.TableLaws.{enter_at, enter_full, enter_new}
+use native.Mathlib.Omega.{arith}
+use Rattle.bitcask.proofs.keydir.place.enter.Goals as goal
+
+pub replace-requires : goal.replace-requires
+replace-requires c = let a = c.args in (among-at a.count a.found _ c.requires.0 c.in-At.is, c.requires.1)
+
+pub returns-then-table-count : goal.returns-then-table-count
+returns-then-table-count c = let a = c.args in enter_full a.table.now a.count a.found _ c.requires.1 c.requires.0 a.s c.in-Before.is c.if-table-count.true
+
+pub insert-requires : goal.insert-requires
+insert-requires c = let a = c.args in (among-before a.count a.found _ c.requires.0 c.in-Before.is, omega arith)
+
+pub returns-in-At : goal.returns-in-At
+returns-in-At c = let a = c.args in enter_at a.table.now a.count a.found _ c.requires.1 c.requires.0 a.s c.in-At.is c.replace.ensures
+
+pub returns-else-table-count : goal.returns-else-table-count
+returns-else-table-count c = let a = c.args in enter_new a.table.now a.count a.found _ c.requires.1 c.requires.0 a.s c.in-Before.is c.if-table-count.false c.insert.ensures

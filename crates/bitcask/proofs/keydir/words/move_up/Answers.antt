@@ -1,0 +1,20 @@
+use Prim.Native.Nat.{◌+◌}
+use mathlib.Core.Path.{refl}
+use lib.ListN.{length-set}
+use Rattle.bitcask.proofs.keydir.WordLaws.{copy_none, up_turn, up_end}
+use native.Mathlib.Omega.{arith}
+use Rattle.bitcask.proofs.keydir.words.move_up.Goals as goal
+
+pub loop-j-init : goal.loop-j-init
+loop-j-init c = (omega arith, refl, copy_none c.args.t.now c.args.n (c.args.n + c.args.by))
+
+pub loop-j-preserved : goal.loop-j-preserved
+loop-j-preserved c =
+    let l = c.loop-j in let a = c.args in
+    (omega arith, simp length-set l.invariant.1, up_turn a.by a.t.now l.t l.j a.n l.invariant.2 (omega arith) (omega arith) (omega arith))
+
+pub shape_of-t : goal.shape_of-t
+shape_of-t c = c.loop-j.invariant.1
+
+pub returns : goal.returns
+returns c = let l = c.loop-j in let a = c.args in up_end a.by a.t.now l.t l.j a.n l.invariant.2 c.loop-j-test.false

@@ -1,0 +1,19 @@
+-- `from_bound` is the rank that the bound names.
+use Rattle.bitcask.specs.keydir.Slots.{slots_of}
+use Rattle.bitcask.proofs.read.RankLaws.{from_included, from_excluded, from_unbounded}
+use Rattle.bitcask.proofs.rank.from_bound.Goals as goal
+
+pub below-requires : goal.below-requires
+below-requires c = c.requires
+
+pub upto-requires : goal.upto-requires
+upto-requires c = c.requires
+
+pub returns-in-Included : goal.returns-in-Included
+returns-in-Included c = from_included _ c.args.log.now c.args.key.now (slots_of c.args.count c.args.table.now) _ _ c.in-Included.is c.below.ensures
+
+pub returns-in-Excluded : goal.returns-in-Excluded
+returns-in-Excluded c = from_excluded _ c.args.log.now c.args.key.now (slots_of c.args.count c.args.table.now) _ _ c.in-Excluded.is c.upto.ensures
+
+pub returns-in-Unbounded : goal.returns-in-Unbounded
+returns-in-Unbounded c = from_unbounded _ c.args.log.now c.args.key.now (slots_of c.args.count c.args.table.now) _ c.in-Unbounded.is

@@ -1,0 +1,16 @@
+-- `upto` is the place that the search finds, as a number.
+use Rattle.bitcask.proofs.read.RankLaws.{found_at, upto-at, upto_before}
+use native.Mathlib.Omega.{arith}
+use Rattle.bitcask.proofs.rank.upto.Goals as goal
+
+pub find-requires : goal.find-requires
+find-requires c = c.requires
+
+pub overflow_add-result : goal.overflow_add-result
+overflow_add-result c = omega (arith, found_at c.args.log.now c.args.key.now c.args.table.now c.args.count _ c.find.ensures c.in-At.i c.in-At.is)
+
+pub returns-in-At : goal.returns-in-At
+returns-in-At c = upto-at c.args.log.now c.args.key.now c.args.table.now c.args.count _ c.find.ensures _ c.in-At.is
+
+pub returns-in-Before : goal.returns-in-Before
+returns-in-Before c = upto_before c.args.log.now c.args.key.now c.args.table.now c.args.count _ c.find.ensures _ c.in-Before.is

@@ -1,0 +1,115 @@
+-- `recovery::passing::take_entry` meets its contract. A whole entry lies within the used length, so its offset and lengths fit a slot's
+-- words, and no value is as long as the mark. Assumes nothing.
+use Prim.Native.Nat.{◌+◌}
+use native.Mathlib.Omega.{arith}
+use Rattle.bitcask.proofs.recovery.TakeLaws.{set-inside, del-inside, not_gone, is_marked, entry-stop, entry_set, entry-del}
+use Rattle.bitcask.proofs.recovery.passing.take_entry.Goals as goal
+
+pub slot_for-s-requires : goal.slot_for-s-requires
+slot_for-s-requires c =
+    let a = c.args in
+    omega (
+      arith,
+      c.requires.1,
+      set-inside a.log.now a.used a.table.now a.pend.now a.h a.at c.entry_at-e.ensures
+          c.requires.0 _ _ c.in-Set.is,
+    )
+
+pub overflow_add-at : goal.overflow_add-at
+overflow_add-at c =
+    let a = c.args in
+    omega (
+      arith,
+      c.requires.1,
+      set-inside a.log.now a.used a.table.now a.pend.now a.h a.at
+          c.entry_at-e.ensures c.requires.0 _ _ c.in-Set.is,
+    )
+
+pub overflow_add-at-in-Set : goal.overflow_add-at-in-Set
+overflow_add-at-in-Set c =
+    let a = c.args in
+    omega (
+      arith,
+      c.requires.1,
+      set-inside a.log.now a.used a.table.now a.pend.now a.h a.at
+          c.entry_at-e.ensures c.requires.0 _ _ c.in-Set.is,
+    )
+
+pub overflow_add-at-in-Set-2 : goal.overflow_add-at-in-Set-2
+overflow_add-at-in-Set-2 c =
+    let a = c.args in
+    omega (
+      arith,
+      c.requires.1,
+      set-inside a.log.now a.used a.table.now a.pend.now a.h a.at
+          c.entry_at-e.ensures c.requires.0 _ _ c.in-Set.is,
+    )
+
+pub take_set-requires : goal.take_set-requires
+take_set-requires c =
+    let a = c.args in
+    let q = set-inside a.log.now a.used a.table.now a.pend.now a.h a.at c.entry_at-e.ensures
+    c.requires.0 _ _ c.in-Set.is in (
+      c.requires.2,
+      c.requires.3,
+      not_gone c.in-Set.vlen (a.at + 1) c.in-Set.klen (omega
+          (arith, c.requires.1)) c.slot_for-s.ensures,
+    )
+
+pub gone_for-s-requires : goal.gone_for-s-requires
+gone_for-s-requires c =
+    let a = c.args in
+    omega (
+      arith,
+      c.requires.1,
+      del-inside a.log.now a.used a.table.now a.pend.now a.h a.at c.entry_at-e.ensures
+          c.requires.0 _ c.in-Del.is,
+    )
+
+pub take_del-held-requires : goal.take_del-held-requires
+take_del-held-requires c =
+    let a = c.args in
+    (c.requires.2, c.requires.3, is_marked (a.at + 1) c.in-Del.klen c.gone_for-s.ensures)
+
+pub overflow_add-result : goal.overflow_add-result
+overflow_add-result c =
+    let a = c.args in
+    omega (
+      arith,
+      c.requires.1,
+      del-inside a.log.now a.used a.table.now a.pend.now a.h a.at
+          c.entry_at-e.ensures c.requires.0 _
+          c.in-Del.is,
+    )
+
+pub overflow_add-result-in-Del : goal.overflow_add-result-in-Del
+overflow_add-result-in-Del c =
+    let a = c.args in
+    omega (
+      arith,
+      c.requires.1,
+      del-inside a.log.now a.used a.table.now a.pend.now a.h a.at
+          c.entry_at-e.ensures c.requires.0 _
+          c.in-Del.is,
+    )
+
+pub returns-in-Set : goal.returns-in-Set
+returns-in-Set c =
+    let a = c.args in
+    entry_set a.log.now a.used a.table.now a.pend.now a.h a.at
+    c.entry_at-e.ensures _ _
+    c.in-Set.is
+    c.slot_for-s.ensures c.take_set.ensures
+
+pub returns-in-Del : goal.returns-in-Del
+returns-in-Del c =
+    let a = c.args in
+    entry-del a.log.now a.used a.table.now a.pend.now a.h a.at
+    c.entry_at-e.ensures _ c.requires.2
+    c.in-Del.is c.gone_for-s.ensures
+    c.take_del-held.ensures
+
+pub returns-in-Stop : goal.returns-in-Stop
+returns-in-Stop c =
+    let a = c.args in
+    entry-stop a.log.now a.used a.table.now a.pend.now a.h a.at c.entry_at-e.ensures c.in-Stop.is

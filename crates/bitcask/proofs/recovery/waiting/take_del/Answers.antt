@@ -1,0 +1,57 @@
+-- `recovery::waiting::take_del` meets its contract. Assumes nothing.
+use native.Mathlib.Omega.{arith}
+use Rattle.bitcask.proofs.recovery.EnterLaws.{pend_among, del-gone, del_waits, del_not}
+use Rattle.bitcask.proofs.recovery.waiting.take_del.Goals as goal
+
+pub find-held-requires : goal.find-held-requires
+find-held-requires c = omega (arith, c.requires.1)
+
+pub waits_gone-requires : goal.waits_gone-requires
+waits_gone-requires c =
+    let a = c.args in
+    (pend_among a.log.now a.table.now a.pend.now a.h a.s c.requires.0 c.requires.1 _ c.find-held.ensures, omega (arith, c.requires.1))
+
+pub returns-then-waits_gone : goal.returns-then-waits_gone
+returns-then-waits_gone c =
+    let a = c.args in
+    del-gone a.log.now a.table.now a.pend.now a.h a.s c.requires.0 c.requires.1 c.key_of.ensures
+    c.find-held.ensures c.waits_gone.ensures c.if-waits_gone.true
+
+pub enter-n-requires : goal.enter-n-requires
+enter-n-requires c =
+    let a = c.args in (
+      pend_among a.log.now a.table.now a.pend.now a.h a.s c.requires.0 c.requires.1 _
+          c.find-held.ensures,
+      omega (arith, c.requires.1),
+    )
+
+pub leave-n-requires : goal.leave-n-requires
+leave-n-requires c =
+    let a = c.args in (
+      pend_among a.log.now a.table.now a.pend.now a.h a.s c.requires.0 c.requires.1 _
+          c.find-held.ensures,
+      omega (arith, c.requires.1),
+    )
+
+pub returns-in-At : goal.returns-in-At
+returns-in-At c =
+    let a = c.args in
+    del_waits a.log.now a.table.now a.pend.now a.h a.s c.requires.0 c.requires.1
+    c.key_of.ensures
+    c.find-held.ensures
+    c.waits_gone.ensures c.requires.2
+    c.if-waits_gone.false
+    c.key_of-2.ensures c.find-found.ensures _
+    c.in-At.is c.enter-n.ensures c.less_by.ensures
+
+pub returns-in-Before : goal.returns-in-Before
+returns-in-Before c =
+    let a = c.args in
+    del_not a.log.now a.table.now a.pend.now a.h a.s c.requires.0 c.requires.1
+    c.key_of.ensures
+    c.find-held.ensures
+    c.waits_gone.ensures c.requires.2
+    c.if-waits_gone.false
+    c.key_of-2.ensures
+    c.find-found.ensures _ c.in-Before.is
+    c.leave-n.ensures c.less_by-in-Before.ensures c.less_by-in-Before-2.ensures

@@ -1,0 +1,18 @@
+-- `recovery::waiting::waits_gone` meets its contract. Assumes nothing.
+use native.Mathlib.Omega.{arith}
+use Rattle.bitcask.proofs.keydir.HalveLaws.{among-at}
+use Rattle.bitcask.proofs.recovery.SettleLaws.{waits_at, waits_before}
+use Rattle.bitcask.proofs.recovery.waiting.waits_gone.Goals as goal
+
+pub slot_at-requires : goal.slot_at-requires
+slot_at-requires c =
+    let a = c.args in
+    omega (arith, c.requires.1, among-at a.waiting a.held _ c.requires.0 c.in-At.is)
+
+pub returns-in-At : goal.returns-in-At
+returns-in-At c =
+    let a = c.args in
+    waits_at a.pend.now a.waiting a.held _ c.requires.0 c.in-At.is c.slot_at.ensures c.is_gone.ensures
+
+pub returns-in-Before : goal.returns-in-Before
+returns-in-Before c = let a = c.args in waits_before a.pend.now a.waiting a.held _ c.in-Before.is
