@@ -62,9 +62,9 @@ take_min l n = elim (dec_le n (length l)) [
 ]
 
 -- what the rule of a struct by value tells of its array
-module _ (h : Handle) (given : length (map (λ (v : ℕ). v) h.set) ≡ max_open) where
+module _ (h : Handle) (given : length h.set ≡ max_open) where
   pub full : length h.set ≡ max_open
-  full = sym (length-map h.set (λ (v : ℕ). v)) ∙ given
+  full = given
 
   -- the part of the array that the count allows is the set
   pub set_part : (n : ℕ) → n ≡ min h.count max_open → take n h.set ≡ set_of h

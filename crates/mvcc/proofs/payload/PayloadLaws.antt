@@ -23,7 +23,7 @@ use Rattle.mvcc.specs.declared.payload.ValueRead.TheVariants.{Value, Gone, Bad}
 use Rattle.mvcc.specs.declared.payload.SetAnswer.TheVariants.{Fine, Refused}
 use Rattle.mvcc.specs.declared.payload.SetRead.{SetRead}
 use Rattle.mvcc.specs.handle.Handles.{rising, set_of, sound_handle, handle_of, blank_handle, with_version, with_all}
-use Rattle.mvcc.specs.payload.Payloads.{ReadsBack, Versions, version_in, set_bytes, versions_of, set_in, value_bytes, value_in, first, refused_set, set_for}
+use Rattle.mvcc.specs.payload.Payloads.{value_at, ReadsBack, Versions, version_in, set_bytes, versions_of, set_in, value_bytes, value_in, first, refused_set, set_for}
 use Rattle.mvcc.proofs.handle.HandleLaws.{set_part, made_all, made_sound}
 
 -- ---- read after write
@@ -48,7 +48,7 @@ first_reads = record {
       let q : length (set_bytes vs) / 8 ≡ length vs = omega arith in
       let m : length (set_bytes vs) % 8 ≡ 0 = omega arith in
       rw (m, q, versions-back vs b);
-  value = λ v. elim v [ some x ↦ refl | none ↦ refl ];
+  value = λ v. elim v as (λ k. value_at (first.write_value k) (first.read_value (first.write_value k)) ≡ some k) [ some x ↦ refl | none ↦ refl ];
 }
 
 -- ---- one version, one value
@@ -190,6 +190,6 @@ pub set-few : (h : Handle) (n : ℕ) → n ≡ min h.count max_open → {m : ℕ
 set-few h n e k = simp length-take (omega arith)
 
 -- the part of a handle's array that its count allows, written
-pub set-written : (h : Handle) → length (map (λ (v : ℕ). v) h.set) ≡ max_open → (n : ℕ) → n ≡ min h.count max_open → (d : List ℕ) {r : ℕ} {out : List ℕ}
+pub set-written : (h : Handle) → length h.set ≡ max_open → (n : ℕ) → n ≡ min h.count max_open → (d : List ℕ) {r : ℕ} {out : List ℕ}
     → (r ≡ length (set_bytes (take n h.set))) × (out ≡ put d 0 (set_bytes (take n h.set))) → (r ≡ length (set_bytes (set_of h))) × (out ≡ put d 0 (set_bytes (set_of h)))
 set-written h given n e d w = rw (set_part h given n e) at w

@@ -47,15 +47,15 @@ unfolding cut_in
 cut_here q m = rw (compare_refl q.key)
 
 -- below the first of them
-below_head : (k : List ℕ) {pre : List Pair} (q : Pair) (xs : List Pair) → compare_bytes q.key k ≡ Less → Below pre (q ∷ xs) → All (Under k) pre
+below_head : (k : List ℕ) (q : Pair) (xs : List Pair) {pre : List Pair} → compare_bytes q.key k ≡ Less → Below pre (q ∷ xs) → All (Under k) pre
 below_head k q xs e all_none = all_none
 below_head k q xs e (all_more {x = p} (all_more h a) b) = all_more (compare_trans p.key q.key k h e) (below_head k q xs e b)
 
-pub below-tail : {pre : List Pair} (q : Pair) (xs : List Pair) → Below pre (q ∷ xs) → Below pre xs
+pub below-tail : (q : Pair) (xs : List Pair) {pre : List Pair} → Below pre (q ∷ xs) → Below pre xs
 below-tail q xs all_none = all_none
 below-tail q xs (all_more (all_more h a) b) = all_more a (below-tail q xs b)
 
-below_own : {pre : List Pair} (q : Pair) (xs : List Pair) → Below pre (q ∷ xs) → All (Under q.key) pre
+below_own : (q : Pair) (xs : List Pair) {pre : List Pair} → Below pre (q ∷ xs) → All (Under q.key) pre
 below_own q xs all_none = all_none
 below_own q xs (all_more (all_more h a) b) = all_more h (below_own q xs b)
 

@@ -1,0 +1,23 @@
+-- `stored` looks the snapshot up.
+use mathlib.Core.Path.{sym}
+use lib.Seq.{length-take-le}
+use Rattle.bitcask.specs.engine.Rows.{rows}
+use Rattle.bitcask.proofs.engine.LookLaws.{found_stands}
+use Rattle.mvcc.proofs.as_of.PastLaws.{stored_none, stored_some}
+use native.Mathlib.Omega.{arith}
+use Rattle.mvcc.proofs.as_of.stored.Goals as goal
+
+pub slice_bounds-bytes-end : goal.slice_bounds-bytes-end
+slice_bounds-bytes-end c = let w = c.snapshot_code-code.ensures in omega (arith, w.whole, w.within)
+
+pub slice_bounds-find-end : goal.slice_bounds-find-end
+slice_bounds-find-end c = let w = c.snapshot_code-code.ensures in sym (length-take-le _ _ (omega (arith, w.whole, w.within)))
+
+pub value_at-requires : goal.value_at-requires
+value_at-requires c = (c.requires, found_stands _ _ c.find.ensures _ c.in-At.is)
+
+pub returns-in-Absent : goal.returns-in-Absent
+returns-in-Absent c = let a = c.args in stored_none (rows a.log.now a.table.now a.mark) a.version c.snapshot_code-code.ensures _ c.find.ensures c.fresh-handle.ensures _ c.in-Absent.is
+
+pub returns-in-At : goal.returns-in-At
+returns-in-At c = let a = c.args in stored_some (rows a.log.now a.table.now a.mark) a.version c.snapshot_code-code.ensures _ c.find.ensures c.fresh-handle.ensures _ c.in-At.is c.value_at.ensures c.read_set.ensures

@@ -1,0 +1,7 @@
+-- `write_span`: the prefix is a tag and the version's bytes.
+use Rattle.bitcask.specs.engine.Rows.{rows}
+use Rattle.mvcc.proofs.end.CloseLaws.{write_rows}
+use Rattle.mvcc.proofs.end.clear.write_span.Goals as goal
+
+pub returns : goal.returns
+returns c = let a = c.args in write_rows (rows a.log.now a.table.now a.mark) a.version c.put_number.ensures c.prefix_span.ensures

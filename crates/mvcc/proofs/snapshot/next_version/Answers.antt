@@ -1,0 +1,23 @@
+-- `next_version` looks its record up.
+use mathlib.Core.Path.{sym}
+use lib.Seq.{length-take-le}
+use Rattle.bitcask.specs.engine.Rows.{rows}
+use Rattle.bitcask.proofs.engine.LookLaws.{found_stands}
+use Rattle.mvcc.proofs.snapshot.ActiveLaws.{next_missing, next_found}
+use native.Mathlib.Omega.{arith}
+use Rattle.mvcc.proofs.snapshot.next_version.Goals as goal
+
+pub slice_bounds-bytes-end : goal.slice_bounds-bytes-end
+slice_bounds-bytes-end c = let w = c.next_version_code-code.ensures in omega (arith, w.whole, w.within)
+
+pub slice_bounds-find-end : goal.slice_bounds-find-end
+slice_bounds-find-end c = let w = c.next_version_code-code.ensures in sym (length-take-le _ _ (omega (arith, w.whole, w.within)))
+
+pub value_at-requires : goal.value_at-requires
+value_at-requires c = (c.requires, found_stands _ _ c.find.ensures _ c.in-At.is)
+
+pub returns-in-Absent : goal.returns-in-Absent
+returns-in-Absent c = let a = c.args in next_missing (rows a.log.now a.table.now a.mark) _ c.next_version_code-code.ensures _ c.find.ensures _ c.in-Absent.is
+
+pub returns-in-At : goal.returns-in-At
+returns-in-At c = let a = c.args in next_found (rows a.log.now a.table.now a.mark) _ c.next_version_code-code.ensures _ c.find.ensures _ c.in-At.is c.value_at.ensures c.read_version.ensures c.positive.ensures

@@ -1,0 +1,24 @@
+-- `is_write` decodes and looks at the kind of key.
+use Rattle.mvcc.proofs.undo.UndoKeyLaws.{write_bad, write_key}
+use Rattle.mvcc.proofs.undo.is_write.Goals as goal
+
+pub returns-in-Refused : goal.returns-in-Refused
+returns-in-Refused c = write_bad _ c.decode.ensures _ c.in-Refused.is
+
+pub returns-in-NextVersion : goal.returns-in-NextVersion
+returns-in-NextVersion c = write_key _ c.decode.ensures _ _ c.in-Whole.is c.in-NextVersion.is
+
+pub returns-in-TxnActive : goal.returns-in-TxnActive
+returns-in-TxnActive c = write_key _ c.decode.ensures _ _ c.in-Whole.is c.in-TxnActive.is
+
+pub returns-in-TxnActiveSnapshot : goal.returns-in-TxnActiveSnapshot
+returns-in-TxnActiveSnapshot c = write_key _ c.decode.ensures _ _ c.in-Whole.is c.in-TxnActiveSnapshot.is
+
+pub returns-in-TxnWrite : goal.returns-in-TxnWrite
+returns-in-TxnWrite c = write_key _ c.decode.ensures _ _ c.in-Whole.is c.in-TxnWrite.is
+
+pub returns-in-Version : goal.returns-in-Version
+returns-in-Version c = write_key _ c.decode.ensures _ _ c.in-Whole.is c.in-Version.is
+
+pub returns-in-Unversioned : goal.returns-in-Unversioned
+returns-in-Unversioned c = write_key _ c.decode.ensures _ _ c.in-Whole.is c.in-Unversioned.is
