@@ -26,10 +26,6 @@ use Rattle.keycode.proofs.Basics.{nope}
 
 -- ---- the first fields of a row, at index i
 
--- the length of an array of cells, as the struct that holds it says it
-pub cells_full : {A B : Type 0} (f : A → B) (cs : List A) → length (map f cs) ≡ 8 → length cs ≡ 8
-cells_full f cs e = sym (length-map cs f) ∙ e
-
 drop-first : {A : Type 0} (cs : List A) (n i : ℕ) (d : A) → i < n → n ≤ length cs → drop i (take n cs) ≡ get_or cs i d ∷ drop (suc i) (take n cs)
 drop-first [] n i d h g = absurd (omega arith)
 drop-first (c ∷ cs) zero i d h g = absurd (omega arith)

@@ -148,11 +148,11 @@ module _ {T : Calls} {w : World} {slots : List ℕ} (run : Run true w T) (s : Sl
   told-goes : {x : List ℕ} → Told w x → Goes T w slots
   told-goes (told a p) = calls_once (fair_free (counts a) refl) p (slotted_more s)
 
-scanned-goes : {T : Calls} {w : World} {slots : List ℕ} {h : Handle} {p : List ℕ} {room : ℕ} {given : Bool} {before : List ℕ} {n : ℕ} {x : List ℕ}
+scanned-goes : {w : World} {slots : List ℕ} {h : Handle} {p : List ℕ} {room : ℕ} {T : Calls} {given : Bool} {before : List ℕ} {n : ℕ} {x : List ℕ}
     → Run true w T → Slotted T slots → Given h T → Scanned w h p room given before n x → Goes T w slots
 scanned-goes {h = h} {p = k} {given = b} {before = l} run s g (ends a p e) = calls_once run s (fair_with (scans_prefix h k b l a) h refl g) p (slotted_more s)
-scanned-goes {h = h} {p = k} {given = b} {before = l} run s g (goes a p e r) =
-    let more = scanned-goes (called run (fair_with (scans_prefix h k b l a) h refl g) p) (slotted_more s) (given-more g) r in
+scanned-goes {h = h} {p = k} {T = T} {given = b} {before = l} run s g (goes a p e r) =
+    let more = scanned-goes {T = scans_prefix h k b l a ∷ T} (called run (fair_with (scans_prefix h k b l a) h refl g) p) (slotted_more s) (given-more g) r in
     record { calls = more.calls; after = after_both (later now) more.after; run = more.run; slotted = more.slotted }
 
 tidied-goes : {T : Calls} (b : Bench) {used : ℕ} {done : Bool} {t g x : List ℕ} → Run true b.world T → Slotted T b.slots

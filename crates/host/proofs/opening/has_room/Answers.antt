@@ -1,0 +1,6 @@
+-- `has_room` asks for a free slot for a new key only.
+use Rattle.host.proofs.OpenLaws.{room_new}
+use Rattle.host.proofs.opening.has_room.Goals as goal
+
+pub returns-in-Before : goal.returns-in-Before
+returns-in-Before c = room_new c.args.slots c.args.count _ c.in-Before.is

@@ -1,0 +1,16 @@
+-- src/answers.rt:84:21
+use mathlib.Core.Path.{sym}
+use Rattle.tape.specs.Answers.{value_bytes, got_bytes}
+use Rattle.tape.proofs.AnswerLaws.{laid_for}
+use Rattle.bitcask.proofs.read.part.Reads as part-reads
+use Rattle.tape.proofs.answers.answer_value.Reads as answer-value-reads
+use Rattle.tape.proofs.answers.put_refusal.Reads as put-refusal-reads
+use Rattle.tape.proofs.answers.answer_got.Goals as goal
+
+-- src/answers.rt:79:1
+pub returns-in-At : goal.returns-in-At
+returns-in-At c = laid_for c.args.out.now (got_bytes c.args.log.now) 0 c.in-At.is (laid_for c.args.out.now value_bytes 0 (sym c.part.ensures) c.answer_value.ensures)
+
+-- src/answers.rt:79:1
+pub returns-in-Refused : goal.returns-in-Refused
+returns-in-Refused c = laid_for c.args.out.now (got_bytes c.args.log.now) 0 c.in-Refused.is c.put_refusal.ensures

@@ -1,0 +1,10 @@
+-- `put_record` lays a record's four pieces, one behind the other.
+use Rattle.tape.proofs.format.LayoutLaws.{record_laid}
+use Rattle.tape.proofs.format.layout.put_record.Goals as goal
+
+pub returns : goal.returns
+returns c =
+    let a = c.args in
+    let p = c.requires in
+    record_laid a.out.now a.at a.a a.b a.w a.key.now a.value.now p.0 p.1 p.2
+    c.put_four.ensures c.put_number.ensures c.put_padded.ensures c.put_padded-2.ensures
