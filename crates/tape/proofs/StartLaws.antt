@@ -54,7 +54,7 @@ goes_on g h = record { calls = h.calls; after = after_both g.after h.after; run 
 
 pub tape_runs : {room : ℕ} {T : Calls} (b : Bench) {rs : List (List ℕ)} {b' : Bench} → Run true b.world T → Slotted T b.slots → Taped room b rs b' → Goes T b'.world b'.slots
 tape_runs {T = T} b run s over = record { calls = T; after = now; run = run; slotted = s }
-tape_runs b run s (turned {b₁ = c} t ts) = let g = turn_runs b run s t in goes_on g (tape_runs c g.run g.slotted ts)
+tape_runs {T = T} b run s (turned {b₁ = c} t ts) = let g = turn_runs b run s t in goes_on g (tape_runs {T = (turn_runs b run s t).calls} c g.run g.slotted ts)
 
 -- from the program's own start
 pub tape_from_start : {room : ℕ} {log spare t t' : List ℕ} {r : Changed} {rs : List (List ℕ)} {b' : Bench} → Opens log 0 t r t' → length log ≤ max_log → length t % tableWords ≡ 0
