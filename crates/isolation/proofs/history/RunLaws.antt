@@ -50,6 +50,7 @@ data AllOk : Trace → Type 0 where
   ok_cons : {e : Entry} {T : Trace} → Ok T e → AllOk T → AllOk (e ∷ T)
 
 ok_of : {e : Entry} {T1 T : Trace} → AllOk T → After (e ∷ T1) T → Ok T1 e
+ok_of {e = e} {T1 = T1} ok_nil x3 = elim x3 [ ]
 ok_of (ok_cons q a) now = q
 ok_of (ok_cons q a) (later b) = ok_of a b
 
