@@ -1,6 +1,6 @@
 -- A codec: bytes of a value, how they are read, and their order. Two codecs, one behind the other, are one; so a row is one, by induction
 -- over its kinds. Assumes nothing.
-use Prim.Native.Nat.{ℕ, suc, ◌+◌}
+use Prim.Native.Nat.{ℕ, suc}
 use mathlib.Core.Path.{◌≡◌, refl, sym, ap, subst, ◌∙◌}
 use mathlib.Core.List.{List, [], ◌∷◌, ◌++◌, append_assoc}
 use Rattle.keycode.specs.declared.order.Order.{Order}

@@ -18,7 +18,7 @@ use Rattle.bitcask.specs.entry.Entry.{Entry}
 use Rattle.bitcask.specs.keydir.Slots.{slot_words}
 use Rattle.bitcask.specs.keydir.Place.{count_of}
 use Rattle.bitcask.specs.declared.request.Changed.TheVariants.{Done}
-use Rattle.bitcask.specs.recovery.Recover.{ends, run, map_of}
+use Rattle.bitcask.specs.recovery.Recover.{map_of}
 use Rattle.bitcask.specs.recovery.Agree.{Agrees}
 use Rattle.bitcask.specs.change.Append.{State, size_all, bytes_all, after_all, append_answer}
 use Rattle.mvcc.specs.handle.Handles.{handle_of}
@@ -33,7 +33,7 @@ use Rattle.mvcc.specs.start.Plan.{plan_of, plan_by, snapshot_by, begin_plan}
 use Rattle.mvcc.specs.start.Begins.{begin_by, begin_with}
 use Rattle.mvcc.specs.start.Promises.{Begins}
 use Rattle.mvcc.proofs.start.StartLaws.{plan-sets}
-use Rattle.mvcc.specs.world.World.{World, opens, Calls}
+use Rattle.mvcc.specs.world.World.{World, Calls}
 use Rattle.isolation.specs.history.History.{is_open}
 use Rattle.isolation.specs.history.Store.{is_some}
 use Rattle.isolation.specs.history.Records.{Rec, next_rec, active_rec, snap_rec, wrote_rec, ver_rec, plain_rec, key_of, Map, look, place, Sorted}

@@ -6,23 +6,21 @@ use mathlib.Core.Bool.{Bool, true, false}
 use mathlib.Core.Option.{some}
 use mathlib.Core.Logic.{◌≢◌, ◌⊎◌, inl, inr}
 use mathlib.Core.List.{List, ◌∷◌}
-use native.Mathlib.Decide.{dec_le, dec_lt}
+use native.Mathlib.Decide.{dec_lt}
 use native.Mathlib.Omega.{arith}
 use lib.Dec.{leb, eqb}
 use lib.ListN.{length}
 use borrow.Author.Tests.{le-leb, lt-leb}
 use Rattle.keycode.specs.Tests.{pick}
 use Rattle.keycode.specs.Limits.{max_open}
-use Rattle.keycode.specs.declared.refusal.Refusal.TheVariants.{LogFull, TableFull, TooManyOpen, NoSuchVersion, VersionsSpent, BadStore}
+use Rattle.keycode.specs.declared.refusal.Refusal.TheVariants.{LogFull, TableFull, TooManyOpen, NoSuchVersion, VersionsSpent}
 use Rattle.bitcask.specs.keydir.Slots.{slot_words}
 use Rattle.keycode.specs.key.Keys.{next_version, txn_active_snapshot}
 use Rattle.bitcask.specs.entry.Entry.{Entry}
 use Rattle.bitcask.specs.declared.request.Changed.{Changed}
 use Rattle.bitcask.specs.declared.request.Changed.TheVariants as Change
 use Rattle.bitcask.specs.recovery.Recover.{map_of}
-use Rattle.bitcask.specs.recovery.Agree.{Agrees}
 use Rattle.bitcask.specs.recovery.Promises.{changed_number}
-use Rattle.bitcask.specs.declared.append.Check.{Check}
 use Rattle.bitcask.specs.declared.append.Check.TheVariants.{Fine}
 use Rattle.bitcask.specs.change.Append.{size_all, after_all, append_answer}
 use Rattle.mvcc.specs.declared.payload.SetAnswer.TheVariants as SetAnswers
@@ -30,8 +28,6 @@ use Rattle.mvcc.specs.declared.handle.Handle.{Handle}
 use Rattle.mvcc.specs.handle.Handles.{handle_of}
 use Rattle.mvcc.specs.declared.begun.Begun.{Begun}
 use Rattle.mvcc.specs.request.Given.{refused_by, begun_with}
-use Rattle.mvcc.specs.request.Checks.{or_else}
-use Rattle.mvcc.specs.request.Lists.{Dels}
 use Rattle.mvcc.specs.declared.report.Versions.{Versions}
 use Rattle.mvcc.specs.declared.report.Stated.{Stated}
 use Rattle.mvcc.specs.declared.report.Stated.TheVariants as Stating
@@ -43,10 +39,6 @@ use Rattle.mvcc.specs.start.Promises.{Begins}
 use Rattle.mvcc.specs.read_only.Promises.{BeginsReading, States}
 use Rattle.mvcc.specs.as_of.Promises.{BeginsAsOf}
 use Rattle.mvcc.specs.read.Promises.{resume_answer, Resumes}
-use Rattle.mvcc.specs.undo.Plans.{all_users}
-use Rattle.mvcc.specs.end.Plans.{writes_of, commit_plan, rollback_plan}
-use Rattle.mvcc.specs.end.Promises.{Commits, commit_answer, RollsBack, undo_answer, rollback_answer}
-use Rattle.mvcc.proofs.end.EndLaws.{dels_done}
 use Rattle.isolation.specs.history.History.{Sight, unborn, status}
 use Rattle.isolation.specs.history.Records.{Map, look, Sorted}
 use Rattle.isolation.specs.history.Calls.{next_of, set_of as snapOf, actives}
@@ -56,13 +48,12 @@ use Rattle.isolation.specs.records.Stored.{key_order, sight_of}
 use Rattle.isolation.proofs.records.OrderLaws.{order}
 use Rattle.isolation.proofs.records.ActiveLaws.{active_count, actives_rise}
 use Rattle.isolation.proofs.records.ReadLaws.{next-pairs}
-use Rattle.isolation.proofs.records.EndLaws.{users_pairs}
 use Rattle.mvcc.specs.world.World.{World, Calls, begins}
 use Rattle.mvcc.specs.world.Runs.{After, Gave, Given}
 use Rattle.isolation.specs.Meaning.{meaning}
 use Rattle.isolation.specs.Views.{Usable, Tells}
 use Rattle.isolation.proofs.GivenLaws.{began_trace}
-use Rattle.isolation.proofs.EndedLaws.{admits, commit_dels, rollback_dels}
+use Rattle.isolation.proofs.EndedLaws.{admits}
 use Rattle.isolation.proofs.KeptLaws.{Kept, Ready}
 use Rattle.isolation.proofs.BegunLaws.{begin_says, sight_made}
 use Rattle.isolation.proofs.BeganLaws.{next_fits, begin_at, reading_at, as_of_at}

@@ -39,7 +39,6 @@ use Rattle.isolation.specs.history.Records.{Map, look}
 use Rattle.isolation.specs.history.Calls.{next_of, actives, begin_map}
 use Rattle.isolation.specs.records.Stored.{key_order, pairs_in}
 use Rattle.isolation.proofs.history.EffectLaws.{begins-map}
-use Rattle.isolation.proofs.history.FewLaws.{one}
 use Rattle.isolation.proofs.history.RunLaws.{run-sorted}
 use Rattle.isolation.proofs.records.OrderLaws.{order}
 use Rattle.isolation.proofs.records.PlanLaws.{begin_pairs}

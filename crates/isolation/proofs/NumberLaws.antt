@@ -1,7 +1,7 @@
 -- Theorems: the numbers that requests and room decide, each exactly in its case. 7 of a commit and a rollback; 2, 4 and 5 of a write; 4 of a
 -- get and of a scan step; 7 and 13 of a compaction; 8 and 13 of an opening. Assumes nothing.
 use Prim.Native.Nat.{ℕ, ◌+◌, ◌/◌, ◌%◌, ◌≤◌, ◌<◌}
-use mathlib.Core.Path.{◌≡◌, refl, sym, ap, ◌∙◌}
+use mathlib.Core.Path.{◌≡◌, ap, ◌∙◌}
 use mathlib.Core.Bool.{Bool, true, false}
 use mathlib.Core.Logic.{inr}
 use mathlib.Core.List.{List, [], ◌∷◌}

@@ -15,7 +15,7 @@ use Rattle.bitcask.specs.declared.request.Changed.TheVariants as Change
 use Rattle.bitcask.specs.recovery.Map.{Pair}
 use Rattle.bitcask.specs.recovery.Recover.{map_of}
 use Rattle.bitcask.specs.recovery.Agree.{fit, Agrees}
-use Rattle.bitcask.specs.declared.append.Check.TheVariants.{Fine, Refused}
+use Rattle.bitcask.specs.declared.append.Check.TheVariants.{Fine}
 use Rattle.bitcask.specs.change.Append.{size_all, after_all}
 use Rattle.mvcc.specs.declared.handle.Handle.{Handle}
 use Rattle.mvcc.specs.handle.Handles.{sound_handle}

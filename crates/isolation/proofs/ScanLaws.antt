@@ -1,6 +1,6 @@
 -- A scan step with a handle that is open shows the first key, of those that pass, that shows a value to the handle; it answers 1 where
 -- there is none, and no other number. Assumes nothing.
-use Prim.Native.Nat.{ℕ, ◌-◌}
+use Prim.Native.Nat.{ℕ}
 use mathlib.Core.Path.{◌≡◌, refl, sym, ap, subst, ◌∙◌}
 use mathlib.Core.Bool.{Bool, true}
 use mathlib.Core.Option.{Option, none, some}

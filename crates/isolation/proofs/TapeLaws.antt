@@ -4,20 +4,18 @@ use mathlib.Core.Path.{◌≡◌, refl, sym, ap, ◌∙◌, subst}
 use mathlib.Core.Bool.{Bool, true, false}
 use mathlib.Core.Logic.{◌≢◌, ◌⊎◌, inl, inr}
 use mathlib.Core.Option.{Option, none, some}
-use mathlib.Core.List.{List, [], ◌∷◌, ◌++◌}
+use mathlib.Core.List.{List, [], ◌++◌}
 use lib.Dec.{leb, ltb}
 use lib.ListN.{length}
 use borrow.Author.Tests.{le-leb, leb-true, leb-false, ltb-true, ltb-false}
 use Rattle.keycode.specs.Tests.{pick}
 use Rattle.keycode.specs.Limits.{max_key}
-use Rattle.keycode.specs.Order.{compare_bytes}
-use Rattle.keycode.specs.Strings.{escape_body, unescaped, plain_length}
+use Rattle.keycode.specs.Strings.{escape_body, plain_length}
 use Rattle.keycode.specs.declared.parts.Part.{Part}
 use Rattle.keycode.specs.declared.refusal.Length.TheVariants as Long
 use Rattle.keycode.specs.key.Keys.{version}
 use Rattle.keycode.proofs.Basics.{nope}
 use Rattle.keycode.proofs.StringLaws.{unescaped_body}
-use Rattle.bitcask.specs.keydir.Place.{All}
 use Rattle.bitcask.specs.declared.answers.Located.{Located}
 use Rattle.bitcask.specs.declared.answers.Stepped.{Stepped}
 use Rattle.bitcask.specs.declared.answers.Stepped.TheVariants as Step
@@ -31,11 +29,11 @@ use Rattle.tape.specs.format.Layout.{value_room, laid, plainly}
 use Rattle.tape.specs.Answers.{bytes_at, got_bytes, Shown, pair, last, pair_if, end_bytes, shown as shownIn}
 use Rattle.tape.specs.Turns as Turns
 use Rattle.tape.proofs.MeantLaws.{means}
-use Rattle.isolation.specs.history.History.{Key, Bytes, Sight}
-use Rattle.isolation.specs.history.Records.{Map, ver_rec, look, Sorted}
+use Rattle.isolation.specs.history.History.{Key, Bytes}
+use Rattle.isolation.specs.history.Records.{Map, ver_rec}
 use Rattle.isolation.specs.history.Calls.{shown}
-use Rattle.isolation.specs.records.Stored.{key_order, Fine, sight_of}
-use Rattle.isolation.specs.records.Scans.{prefix_past, First, none-shows, first-shows}
+use Rattle.isolation.specs.records.Stored.{sight_of}
+use Rattle.isolation.specs.records.Scans.{prefix_past, none-shows, first-shows}
 use Rattle.isolation.specs.Views.{Usable, Sees, Shows}
 use Rattle.isolation.specs.Shown.{ShowsFirst, ends, gives}
 use Rattle.isolation.specs.Listed.{Lists, all, more, full, value_shown}

@@ -2,7 +2,7 @@
 -- `tape_from_start`), and so the theorems of proofs/Isolation hold of its calls; here they are said of the bytes of each answer and of the
 -- handle slots. R is the run up to a record, and a slot's handle is one that the run gave. Assumes nothing.
 use Prim.Native.Nat.{ℕ, ◌≤◌}
-use mathlib.Core.Path.{◌≡◌, refl, sym, ap, ◌∙◌, subst}
+use mathlib.Core.Path.{◌≡◌, refl, ap, ◌∙◌, subst}
 use mathlib.Core.Bool.{Bool, true, false}
 use mathlib.Core.Logic.{◌≢◌, ◌⊎◌}
 use mathlib.Core.Option.{Option, none, some}
@@ -39,7 +39,7 @@ use Rattle.tape.specs.Turns.{start_call, write_call, end_call, Started, started,
 use Rattle.tape.proofs.MeantLaws.{Means, means}
 use Rattle.isolation.specs.history.History.{Key, Bytes, unborn, opened, status}
 use Rattle.isolation.specs.Meaning.{meaning}
-use Rattle.isolation.specs.Views.{Usable, Sees, Meets, size_in, Stands, Starts, ended_in, compacted_in}
+use Rattle.isolation.specs.Views.{Usable, Sees, Meets, Stands, Starts, ended_in, compacted_in}
 use Rattle.isolation.specs.Listed.{Lists, written_by, value_shown}
 use Rattle.isolation.proofs.Isolation.{get_shows, begin_answers, reading_answers, as_of_answers, as_of_refused, compact_answers, count-answers, commit_exact, rollback_exact}
 use Rattle.isolation.proofs.Isolation.{write_refused, write_conflicts}

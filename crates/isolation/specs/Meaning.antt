@@ -1,6 +1,6 @@
 -- What the calls of a run mean: how the history counts each, by the call made and the number answered alone. Assumes nothing.
 use Rattle.std.proofs.Math.Option.{none, some}
-use Rattle.std.specs.Prelude.{List, [], ◌∷◌}
+use Rattle.std.specs.Prelude.{[], ◌∷◌}
 use Rattle.bitcask.specs.declared.request.Changed.{Changed}
 use Rattle.bitcask.specs.declared.request.Changed.TheVariants.{Done, Refused}
 use Rattle.bitcask.specs.recovery.Promises.{changed_number}

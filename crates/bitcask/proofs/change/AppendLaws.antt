@@ -1,8 +1,7 @@
 -- What the code of an append does, by what its callees promise, and the room test. Assumes nothing.
-use Prim.Native.Nat.{ℕ, suc, ◌+◌, ◌-◌, ◌≤◌, ◌<◌}
-use mathlib.Core.Path.{◌≡◌, refl, sym, ap, ◌∙◌}
+use Prim.Native.Nat.{ℕ, ◌+◌, ◌-◌, ◌≤◌, ◌<◌}
+use mathlib.Core.Path.{◌≡◌, ap}
 use mathlib.Core.List.{List, ◌++◌}
-use native.Mathlib.Omega.{arith}
 use lib.ListN.{length, length-append}
 use borrow.Author.Tests.{le-leb, lt-leb}
 use Rattle.keycode.specs.Buffer.{put}
@@ -10,16 +9,14 @@ use Rattle.keycode.specs.declared.refusal.Refusal.TheVariants.{LogFull, TableFul
 use Rattle.bitcask.specs.entry.Entry.{Entry, set, del, bytes_of, size_of}
 use Rattle.bitcask.specs.declared.keydir.slots.Slot.{Slot}
 use Rattle.bitcask.specs.declared.keydir.place.Found.{Found}
-use Rattle.bitcask.specs.declared.keydir.place.Found.TheVariants.{At, Before}
 use Rattle.bitcask.specs.keydir.Slots.{slots_of}
 use Rattle.bitcask.specs.keydir.Place.{place_of, entered, cut_at, Becomes, Among}
 use Rattle.bitcask.proofs.keydir.SlotLaws.{slots_length}
 use Rattle.bitcask.proofs.keydir.PlaceLaws.{place-among}
 use Rattle.bitcask.specs.declared.append.Room.{Room}
 use Rattle.bitcask.specs.declared.append.Room.TheVariants.{Left, Full}
-use Rattle.bitcask.specs.declared.append.Check.{Check}
 use Rattle.bitcask.specs.declared.append.Check.TheVariants.{Fine, Refused}
-use Rattle.bitcask.specs.change.Append.{State, slots_after, appended, room_after, judge, wants, fresh_in}
+use Rattle.bitcask.specs.change.Append.{slots_after, appended, room_after, judge, wants, fresh_in}
 
 -- ---- one entry
 

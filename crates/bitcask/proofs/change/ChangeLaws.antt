@@ -1,20 +1,19 @@
 -- Set and delete keep their promise: by the judgement of room and slots, and the append law of recovery. Assumes nothing.
-use Prim.Native.Nat.{ℕ, zero, suc, ◌+◌, ◌-◌, ◌*◌, ◌/◌, ◌≤◌, ◌<◌}
-use mathlib.Core.Path.{◌≡◌, refl, sym, ap, ◌∙◌, subst}
-use mathlib.Core.Bool.{Bool, true, false, not}
-use mathlib.Core.List.{List, [], ◌∷◌, ◌++◌, append-nil}
+use Prim.Native.Nat.{ℕ, ◌+◌, ◌-◌, ◌*◌, ◌/◌, ◌≤◌, ◌<◌}
+use mathlib.Core.Path.{◌≡◌, refl, sym, ap, ◌∙◌}
+use mathlib.Core.Bool.{Bool, true, false}
+use mathlib.Core.List.{List, [], ◌∷◌}
 use native.Mathlib.Nat.{add-zero}
 use native.Mathlib.Omega.{arith}
-use lib.Dec.{leb, ltb, eqb}
+use lib.Dec.{leb}
 use lib.ListN.{length}
-use borrow.Author.Tests.{le-leb, lt-leb, leb-true, leb-false, ltb-true, lt-ltb}
-use Rattle.keycode.specs.Tests.{pick, if_done}
+use borrow.Author.Tests.{le-leb, lt-leb, leb-true, leb-false, lt-ltb}
+use Rattle.keycode.specs.Tests.{pick}
 use Rattle.keycode.specs.Limits.{max_log}
 use Rattle.keycode.specs.Buffer.{put}
 use Rattle.keycode.specs.declared.refusal.Refusal.{Refusal}
 use Rattle.keycode.specs.declared.refusal.Refusal.TheVariants.{LogFull, TableFull, BadRequest}
 use Rattle.keycode.proofs.Basics.{nope}
-use Rattle.keycode.proofs.BufferLaws.{refused_stays}
 use Rattle.bitcask.specs.entry.Entry.{Entry, set, del, entry_key, entry_value, bytes_of, size_of}
 use Rattle.bitcask.specs.declared.keydir.slots.Slot.{Slot}
 use Rattle.bitcask.specs.declared.keydir.place.Found.{Found}
@@ -25,14 +24,11 @@ use Rattle.bitcask.proofs.keydir.SlotLaws.{slots_length, insert_length, replace_
 use Rattle.bitcask.proofs.keydir.CountLaws.{count-within}
 use Rattle.bitcask.proofs.keydir.PlaceLaws.{place-among}
 use Rattle.bitcask.proofs.keydir.TableLaws.{laid-length, entered-room, entered-within, cut_within}
-use Rattle.bitcask.specs.declared.request.Used.{Used}
-use Rattle.bitcask.specs.declared.request.Changed.{Changed}
 use Rattle.bitcask.specs.declared.request.Changed.TheVariants as Change
-use Rattle.bitcask.specs.recovery.Map.{Pair, after}
-use Rattle.bitcask.specs.recovery.Recover.{Item, item_for, recovered, map_of, step_at}
+use Rattle.bitcask.specs.recovery.Map.{after}
+use Rattle.bitcask.specs.recovery.Recover.{item_for, map_of, step_at}
 use Rattle.bitcask.specs.recovery.Agree.{fit, Agrees}
-use Rattle.bitcask.specs.recovery.Promises.{changed_number}
-use Rattle.bitcask.proofs.recovery.AgreeLaws.{Sound, fit-sound, agrees-count, agrees-slots, agrees-place, agrees-room, map-length, append-slots, append-map, append-agrees, append-long}
+use Rattle.bitcask.proofs.recovery.AgreeLaws.{Sound, fit-sound, agrees-slots, agrees-place, map-length, append-slots, append-map, append-agrees}
 use Rattle.bitcask.specs.declared.append.Room.{Room}
 use Rattle.bitcask.specs.declared.append.Room.TheVariants.{Left, Full}
 use Rattle.bitcask.specs.declared.append.Check.{Check}

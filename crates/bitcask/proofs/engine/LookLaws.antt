@@ -1,15 +1,14 @@
 -- The row of a key: what a caller knows of the place that was found, and in the words of the map. Assumes nothing.
 use Prim.Native.Nat.{ℕ, zero, suc, ◌<◌}
 use mathlib.Core.Path.{◌≡◌, refl, sym, ap, ◌∙◌, subst}
-use mathlib.Core.Bool.{Bool, true, false}
-use mathlib.Core.Option.{Option, none, some}
+use mathlib.Core.Bool.{true, false}
+use mathlib.Core.Option.{none, some}
 use mathlib.Core.List.{List}
 use lib.ListN.{length, get_or}
 use Rattle.keycode.proofs.Basics.{nope}
 use Rattle.bitcask.specs.declared.keydir.slots.Slot.{Slot}
 use Rattle.bitcask.specs.declared.keydir.place.Found.{Found as Place}
-use Rattle.bitcask.specs.declared.keydir.place.Found.TheVariants as Place
-use Rattle.bitcask.specs.keydir.Place.{Sorted, place_in, Among, All, all_none, all_more}
+use Rattle.bitcask.specs.keydir.Place.{place_in, Among, All, all_none, all_more}
 use Rattle.bitcask.proofs.keydir.PlaceLaws.{place-sorted}
 use Rattle.bitcask.specs.recovery.Map.{is_some, look_in, live_in}
 use Rattle.bitcask.specs.recovery.Recover.{recovered, map_of}

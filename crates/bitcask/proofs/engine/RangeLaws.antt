@@ -1,21 +1,18 @@
 -- Ranges of rows by ranks are, on rows whose keys rise, the rows whose keys lie within the bounds, and so is a walk down from the upper
 -- bound; under agreement those of the recovered rows. Assumes nothing.
-use Prim.Native.Nat.{ℕ, zero, suc, ◌+◌, ◌≤◌, ◌<◌}
+use Prim.Native.Nat.{ℕ, zero, suc, ◌≤◌, ◌<◌}
 use mathlib.Core.Path.{◌≡◌, refl, sym, ap, ◌∙◌}
 use mathlib.Core.Bool.{Bool, true, false}
 use mathlib.Core.List.{List, [], ◌∷◌, ◌++◌}
 use native.Mathlib.Decide.{dec_lt, dec_le}
 use native.Mathlib.Omega.{arith}
 use lib.Dec.{leb}
-use lib.ListN.{length, take, drop, get_or, length-take, drop_of_length-le}
+use lib.ListN.{length, take, get_or, length-take, drop_of_length-le}
 use lib.Seq.{take-suc, length-take-le, drop-append-le}
 use borrow.Author.Tests.{le-leb, lt-leb, lt-ltb, le-ltb}
 use Rattle.keycode.specs.Tests.{pick}
-use Rattle.keycode.specs.Order.{compare_bytes}
 use Rattle.bitcask.specs.declared.keydir.slots.Slot.{Slot}
 use Rattle.bitcask.specs.declared.keydir.place.Found.{Found as Place}
-use Rattle.bitcask.specs.declared.keydir.place.Found.TheVariants as Place
-use Rattle.bitcask.specs.keydir.Slots.{free_slot, key_of}
 use Rattle.bitcask.specs.keydir.Place.{All, all_none, all_more, order_at, Sorted, Among}
 use Rattle.bitcask.proofs.keydir.HalveLaws.{halved-among}
 use Rattle.bitcask.specs.recovery.Map.{Pair, pairs_of}
@@ -23,13 +20,13 @@ use Rattle.bitcask.specs.recovery.Recover.{recovered, map_of}
 use Rattle.bitcask.proofs.recovery.FoldLaws.{recovered-sorted}
 use Rattle.bitcask.specs.declared.answers.Bound.{Bound}
 use Rattle.bitcask.specs.declared.answers.Bound.TheVariants.{Included, Excluded, Unbounded}
-use Rattle.bitcask.specs.read.Ranks.{before_at, through_at, admits_low, from_bound, upto_bound}
+use Rattle.bitcask.specs.read.Ranks.{before_at, through_at, admits_low}
 use Rattle.bitcask.proofs.read.ScanLaws.{between as betweenNumbers, low_test, high_test}
 use Rattle.bitcask.specs.declared.engine.mark.Mark.{Mark}
 use Rattle.bitcask.specs.declared.engine.span.Span.{Span}
-use Rattle.bitcask.specs.engine.Rows.{Row, blank, row_of, rows_of, rows, pairs, rows_in}
+use Rattle.bitcask.specs.engine.Rows.{Row, blank, rows_of, rows, pairs, rows_in}
 use Rattle.bitcask.specs.engine.Marks.{Agreeing}
-use Rattle.bitcask.specs.engine.Spots.{rank, order_in, place_by, from_rank, upto_rank}
+use Rattle.bitcask.specs.engine.Spots.{order_in, place_by, from_rank, upto_rank}
 use Rattle.bitcask.specs.engine.Ranges.{inside, keep_rows, rows_from, between, range_of, Spans}
 use Rattle.bitcask.specs.engine.Walks.{down_from}
 use Rattle.bitcask.proofs.engine.RowLaws.{rows-length, rows_at, rows_agree, in_map, order-rows, from-rows, upto-rows}

@@ -1,5 +1,5 @@
 -- A set laid at a place that was found before: what the code does, and that a place behind a lesser key stays right. Assumes nothing.
-use Prim.Native.Nat.{ℕ, zero, suc, ◌+◌, ◌-◌, ◌*◌, ◌/◌, ◌≤◌, ◌<◌}
+use Prim.Native.Nat.{ℕ, suc, ◌+◌, ◌-◌, ◌*◌, ◌/◌, ◌≤◌, ◌<◌}
 use mathlib.Core.Path.{◌≡◌, refl, sym, ap, ◌∙◌}
 use mathlib.Core.List.{List, [], ◌∷◌, ◌++◌}
 use native.Mathlib.Nat.{add-zero}
@@ -13,11 +13,10 @@ use Rattle.keycode.specs.declared.order.Order.{Order}
 use Rattle.keycode.specs.declared.order.Order.TheVariants.{Less, Equal, Greater}
 use Rattle.keycode.proofs.OrderLaws.{compare_trans, compare_equal}
 use Rattle.keycode.proofs.BufferLaws.{length-put}
-use Rattle.bitcask.specs.entry.Entry.{Entry, set, bytes_of, size_of}
+use Rattle.bitcask.specs.entry.Entry.{set, bytes_of, size_of}
 use Rattle.bitcask.proofs.entry.EntryLaws.{length-bytes}
 use Rattle.bitcask.specs.declared.keydir.slots.Slot.{Slot}
 use Rattle.bitcask.specs.declared.keydir.place.Found.{Found as Place}
-use Rattle.bitcask.specs.declared.keydir.place.Found.TheVariants as Place
 use Rattle.bitcask.specs.keydir.Slots.{slot_words, slots_of, key_of, insert_at, replace_at}
 use Rattle.bitcask.specs.keydir.Place.{Among, Becomes, place_of, place_in, further, put_at, entered, laid}
 use Rattle.bitcask.proofs.keydir.SlotLaws.{slots_length, replace_length, insert_length}

@@ -1,19 +1,15 @@
 -- What the functions on spots answer, for any table. Assumes nothing.
-use Prim.Native.Nat.{ℕ, zero, suc, ◌+◌, ◌-◌, ◌*◌, ◌^◌, ◌≤◌, ◌<◌}
+use Prim.Native.Nat.{ℕ, ◌+◌, ◌-◌, ◌*◌, ◌^◌, ◌≤◌, ◌<◌}
 use mathlib.Core.Path.{◌≡◌, refl, sym, ap, ◌∙◌}
 use mathlib.Core.Bool.{Bool, true, false, not}
-use mathlib.Core.List.{List, [], ◌∷◌}
+use mathlib.Core.List.{List}
 use native.Mathlib.Omega.{arith}
-use lib.Dec.{leb}
-use lib.ListN.{length, take, drop, get_or, length-take, length-drop}
+use lib.ListN.{length, drop, length-take, length-drop}
 use borrow.Author.Tests.{not-true, not-false}
-use Rattle.keycode.specs.Limits.{max_log}
 use Rattle.keycode.specs.declared.refusal.Refusal.{Refusal}
 use Rattle.keycode.specs.declared.refusal.Refusal.TheVariants.{BadRequest}
-use Rattle.keycode.specs.declared.parts.Part.{Part}
 use Rattle.bitcask.specs.declared.keydir.slots.Slot.{Slot}
 use Rattle.bitcask.specs.declared.keydir.place.Found.{Found as Place}
-use Rattle.bitcask.specs.declared.keydir.place.Found.TheVariants as Place
 use Rattle.bitcask.specs.keydir.Slots.{slot_words, slot_at, slots_of, key_of, value_of}
 use Rattle.bitcask.specs.keydir.Place.{place_of, count_of}
 use Rattle.bitcask.proofs.keydir.SlotLaws.{slot_at_is}
@@ -28,9 +24,8 @@ use Rattle.bitcask.specs.declared.engine.mark.Mark.{Mark}
 use Rattle.bitcask.specs.declared.engine.mark.Entered.{Entered}
 use Rattle.bitcask.specs.declared.engine.mark.Entered.TheVariants.{In, Refused}
 use Rattle.bitcask.specs.declared.engine.spot.Spot.{Spot}
-use Rattle.bitcask.specs.declared.engine.spot.Found.{Found}
 use Rattle.bitcask.specs.declared.engine.spot.Found.TheVariants.{At, Absent}
-use Rattle.bitcask.specs.engine.Rows.{Row, blank, row_of, rows, key_place, value_place, offset_of}
+use Rattle.bitcask.specs.engine.Rows.{Row, row_of, rows, key_place, value_place, offset_of}
 use Rattle.bitcask.specs.engine.Marks.{mark_of, entered_by, Held, Agreeing}
 use Rattle.bitcask.specs.engine.Spots.{rank, row_at, placed, place_by, from_rank, upto_rank}
 use Rattle.bitcask.proofs.engine.RowLaws.{rows_at, rows-count, place-rows, from-rows, upto-rows}

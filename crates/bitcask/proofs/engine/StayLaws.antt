@@ -1,5 +1,5 @@
 -- The place of a key when a greater one was set: it stays. Assumes nothing.
-use mathlib.Core.Path.{◌≡◌, refl, sym, ap, ◌∙◌}
+use mathlib.Core.Path.{◌≡◌, refl, ◌∙◌}
 use mathlib.Core.List.{List, [], ◌∷◌}
 use Prim.Native.Nat.{ℕ}
 use Rattle.keycode.specs.Order.{compare_bytes}
@@ -7,10 +7,8 @@ use Rattle.keycode.specs.declared.order.Order.{Order}
 use Rattle.keycode.specs.declared.order.Order.TheVariants.{Less, Equal, Greater}
 use Rattle.keycode.proofs.OrderLaws.{compare_trans, compare_equal, compare_flip}
 use Rattle.bitcask.specs.declared.keydir.slots.Slot.{Slot}
-use Rattle.bitcask.specs.declared.keydir.place.Found.{Found as Place}
-use Rattle.bitcask.specs.declared.keydir.place.Found.TheVariants as Place
 use Rattle.bitcask.specs.keydir.Slots.{key_of, insert_at, replace_at}
-use Rattle.bitcask.specs.keydir.Place.{place_in, further, put_at}
+use Rattle.bitcask.specs.keydir.Place.{place_in, put_at}
 use Rattle.bitcask.proofs.engine.SetLaws.{put-further}
 
 module _ (log : List ℕ) (s : Slot) (k : List ℕ) (less : compare_bytes k (key_of log s) ≡ Less) where

@@ -1,8 +1,8 @@
 -- What the steps of a walk answer, for any table. Assumes nothing.
-use Prim.Native.Nat.{ℕ, zero, suc, ◌+◌, ◌-◌, ◌≤◌, ◌<◌}
+use Prim.Native.Nat.{ℕ, zero, suc, ◌-◌, ◌≤◌, ◌<◌}
 use mathlib.Core.Path.{◌≡◌, refl, sym, ap, ◌∙◌}
 use mathlib.Core.Bool.{Bool, true, false}
-use mathlib.Core.Option.{Option, none, some}
+use mathlib.Core.Option.{none, some}
 use mathlib.Core.List.{List, [], ◌∷◌, ◌++◌}
 use native.Mathlib.Omega.{arith}
 use lib.ListN.{length, get_or}
@@ -16,7 +16,6 @@ use Rattle.bitcask.specs.read.Ranks.{admits_low, admits_high}
 use Rattle.bitcask.specs.declared.engine.mark.Mark.{Mark}
 use Rattle.bitcask.specs.declared.engine.spot.Spot.{Spot}
 use Rattle.bitcask.specs.declared.engine.walk.Near.{Near}
-use Rattle.bitcask.specs.declared.engine.walk.Near.TheVariants as Near
 use Rattle.bitcask.specs.engine.Rows.{Row, blank, rows}
 use Rattle.bitcask.specs.engine.Marks.{Held}
 use Rattle.bitcask.specs.engine.Spots.{rank, row_at, order_in}

@@ -21,7 +21,7 @@ use Rattle.bitcask.proofs.keydir.HalveLaws.{among_index}
 use Rattle.bitcask.proofs.keydir.PlaceLaws.{place-among, place-sorted}
 use Rattle.bitcask.proofs.keydir.SortLaws.{all-turn}
 use Rattle.bitcask.specs.merging.Merge.{is_gone, lay, lays, new_of, news}
-use Rattle.bitcask.specs.merging.Passes.{behind, placed, PutsNext, PutsAll}
+use Rattle.bitcask.specs.merging.Passes.{placed, PutsNext, PutsAll}
 use Rattle.bitcask.proofs.merging.MergeLaws.{sorted-take, sorted-last, place-over, lays-before, lays-last}
 use Rattle.bitcask.proofs.merging.PartLaws.{words-front, slots-take, slots_same, put_fore, put-at}
 

@@ -1,8 +1,8 @@
 -- Get and scan step keep their promise. Assumes nothing.
-use Prim.Native.Nat.{ℕ, ◌+◌, ◌*◌, ◌≤◌, ◌<◌, max}
-use mathlib.Core.Path.{◌≡◌, refl, sym, ap, ◌∙◌}
-use mathlib.Core.Bool.{Bool, true, false, not}
-use mathlib.Core.Option.{Option, none, some}
+use Prim.Native.Nat.{ℕ, ◌≤◌, ◌<◌, max}
+use mathlib.Core.Path.{◌≡◌, sym, ap, ◌∙◌}
+use mathlib.Core.Bool.{Bool, true, false}
+use mathlib.Core.Option.{none, some}
 use mathlib.Core.List.{List}
 use native.Mathlib.Omega.{arith}
 use lib.Dec.{ltb}
@@ -15,20 +15,18 @@ use Rattle.keycode.proofs.Basics.{nope}
 use Rattle.bitcask.specs.declared.keydir.slots.Slot.{Slot}
 use Rattle.bitcask.specs.declared.keydir.place.Found.{Found}
 use Rattle.bitcask.specs.declared.keydir.place.Found.TheVariants.{At, Before}
-use Rattle.bitcask.specs.keydir.Slots.{slot_words, free_slot, slot_at, slots_of}
+use Rattle.bitcask.specs.keydir.Slots.{free_slot, slot_at, slots_of}
 use Rattle.bitcask.specs.keydir.Place.{count_of, place_of, place_in}
 use Rattle.bitcask.proofs.keydir.SlotLaws.{slots_length, slot_at_is}
-use Rattle.bitcask.proofs.keydir.CountLaws.{count-within}
-use Rattle.bitcask.proofs.keydir.PlaceLaws.{place_at}
-use Rattle.bitcask.specs.recovery.Recover.{recovered, map_of, view}
+use Rattle.bitcask.specs.recovery.Recover.{recovered, map_of}
 use Rattle.bitcask.specs.recovery.Agree.{fit, Agrees}
 use Rattle.bitcask.proofs.recovery.FoldLaws.{recovered-sorted}
-use Rattle.bitcask.proofs.recovery.AgreeLaws.{agrees-count, agrees-slots, agrees-place}
+use Rattle.bitcask.proofs.recovery.AgreeLaws.{agrees-slots, agrees-place}
 use Rattle.bitcask.specs.declared.answers.Bound.{Bound}
 use Rattle.bitcask.specs.declared.answers.Located.TheVariants as Got
 use Rattle.bitcask.specs.declared.answers.Stepped.TheVariants as Step
 use Rattle.bitcask.specs.read.Ranks.{from_bound, upto_bound, last_bound, admitted, first_of}
-use Rattle.bitcask.specs.read.Promises.{Gets, located_by, key_part, value_part, Steps, stepped_by}
+use Rattle.bitcask.specs.read.Promises.{Gets, key_part, value_part, Steps}
 use Rattle.bitcask.proofs.read.RankLaws.{found_at}
 use Rattle.bitcask.proofs.read.ScanLaws.{first-is}
 

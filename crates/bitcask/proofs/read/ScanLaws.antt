@@ -1,9 +1,9 @@
 -- A scan step by numbers is the first key that the bounds admit: on sorted slots a bound admits exactly the numbers on its side of the
 -- rank that it names. Assumes nothing.
-use Prim.Native.Nat.{ℕ, zero, suc, ◌+◌, ◌≤◌, ◌<◌, max}
+use Prim.Native.Nat.{ℕ, suc, ◌+◌, ◌≤◌, ◌<◌, max}
 use mathlib.Core.Path.{◌≡◌, refl, sym, ap, ◌∙◌}
 use mathlib.Core.Bool.{Bool, true, false}
-use mathlib.Core.Option.{Option, none, some}
+use mathlib.Core.Option.{none, some}
 use mathlib.Core.List.{List, [], ◌∷◌}
 use native.Mathlib.Decide.{dec_lt, dec_le}
 use native.Mathlib.Omega.{arith}
@@ -11,7 +11,6 @@ use lib.Dec.{leb, ltb}
 use lib.ListN.{length, get_or}
 use borrow.Author.Tests.{le-leb, lt-leb, lt-ltb, le-ltb}
 use Rattle.keycode.specs.Tests.{pick}
-use Rattle.keycode.specs.Order.{compare_bytes, by_order}
 use Rattle.keycode.specs.declared.order.Order.{Order}
 use Rattle.keycode.specs.declared.order.Order.TheVariants.{Less, Equal, Greater}
 use Rattle.keycode.proofs.Basics.{Ordered, below as lower, same, above, ordered}
@@ -22,7 +21,6 @@ use Rattle.bitcask.specs.keydir.Slots.{free_slot, key_of}
 use Rattle.bitcask.specs.keydir.Place.{order_at, place_of, place_in, Sorted}
 use Rattle.bitcask.proofs.keydir.HalveLaws.{Spot}
 use Rattle.bitcask.proofs.keydir.PlaceLaws.{place-sorted, place_spot}
-use Rattle.bitcask.specs.recovery.Map.{Pair}
 use Rattle.bitcask.specs.recovery.Recover.{view}
 use Rattle.bitcask.specs.declared.answers.Bound.{Bound}
 use Rattle.bitcask.specs.declared.answers.Bound.TheVariants.{Included, Excluded, Unbounded}

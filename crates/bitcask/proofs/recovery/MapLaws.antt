@@ -8,7 +8,7 @@ use Rattle.keycode.specs.declared.order.Order.TheVariants.{Less, Equal, Greater}
 use Rattle.keycode.specs.Order.{compare_bytes, by_order}
 use Rattle.keycode.proofs.OrderLaws.{flip, compare_flip, compare_refl, compare_equal, compare_trans}
 use Rattle.bitcask.specs.keydir.Place.{All, all_none, all_more}
-use Rattle.bitcask.specs.recovery.Map.{Pair, look_in, put_in, cut_in, after, Rising, rising-more}
+use Rattle.bitcask.specs.recovery.Map.{Pair, look_in, put_in, cut_in, Rising, rising-more}
 
 greater_less : (a b : List ℕ) → compare_bytes a b ≡ Greater → compare_bytes b a ≡ Less
 greater_less a b e = compare_flip a b ∙ ap flip e

@@ -1,6 +1,6 @@
 -- Entries appended to a log, and the table kept with it. `appended` is what the code does, for any words; `append_answer` judges a whole
 -- list of entries at once and is the only place of 7 and 8, for the engine's calls and for the transactions'. Assumes nothing.
-use Rattle.std.specs.Prelude.{ℕ, suc, ◌+◌, ◌-◌, ◌/◌, List, [], ◌∷◌, ◌++◌, leb, length}
+use Rattle.std.specs.Prelude.{ℕ, ◌+◌, ◌-◌, ◌/◌, List, [], ◌∷◌, ◌++◌, leb, length}
 use Rattle.keycode.specs.Tests.{pick}
 use Rattle.keycode.specs.Buffer.{put}
 use Rattle.keycode.specs.declared.refusal.Refusal.TheVariants.{LogFull, TableFull}

@@ -5,7 +5,6 @@ use Rattle.keycode.specs.Buffer.{put}
 use Rattle.bitcask.specs.entry.Entry.{set, bytes_of, size_of}
 use Rattle.bitcask.specs.declared.keydir.slots.Slot.{Slot}
 use Rattle.bitcask.specs.declared.keydir.place.Found.{Found as Place}
-use Rattle.bitcask.specs.declared.keydir.place.Found.TheVariants as Place
 use Rattle.bitcask.specs.keydir.Slots.{slots_of}
 use Rattle.bitcask.specs.keydir.Place.{entered, laid}
 use Rattle.bitcask.specs.change.Append.{State, slot_of}

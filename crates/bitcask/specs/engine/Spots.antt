@@ -1,11 +1,10 @@
 -- The places of rows. `rank` alone looks into a spot: how many rows come before it. Every contract is an equation of ranks, so that a
 -- store whose spots are something else than numbers (the offsets of entries, say) can keep it. Assumes nothing.
-use Rattle.std.specs.Prelude.{ℕ, zero, suc, ◌+◌, Bool, true, false, List, length, get_or}
+use Rattle.std.specs.Prelude.{ℕ, Bool, true, false, List, length, get_or}
 use Rattle.std.proofs.Math.Option.{Option, none, some}
 use Rattle.keycode.specs.Order.{compare_bytes}
 use Rattle.keycode.specs.declared.order.Order.{Order}
 use Rattle.bitcask.specs.declared.keydir.place.Found.{Found as Place}
-use Rattle.bitcask.specs.declared.keydir.place.Found.TheVariants as Place
 use Rattle.bitcask.specs.keydir.Place.{halved}
 use Rattle.bitcask.specs.declared.answers.Bound.{Bound}
 use Rattle.bitcask.specs.declared.answers.Bound.TheVariants.{Included, Excluded, Unbounded}

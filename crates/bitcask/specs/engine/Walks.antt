@@ -5,7 +5,6 @@ use Rattle.keycode.specs.Tests.{pick}
 use Rattle.bitcask.specs.declared.answers.Bound.{Bound}
 use Rattle.bitcask.specs.read.Ranks.{admits_low, admits_high}
 use Rattle.bitcask.specs.declared.engine.walk.Near.{Near}
-use Rattle.bitcask.specs.declared.engine.walk.Near.TheVariants as Near
 use Rattle.bitcask.specs.engine.Rows.{Row, blank}
 use Rattle.bitcask.specs.engine.Spots.{rank, order_in}
 

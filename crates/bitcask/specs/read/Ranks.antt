@@ -1,7 +1,7 @@
 -- Ranks of keys and bounds of scans, of slots as the code finds them and of the map in document 01's words. A lower bound is the number
 -- of the first pair that it admits, an upper one the number past the last; a scan step gives the first number that lies between.
 -- Assumes nothing.
-use Rattle.std.specs.Prelude.{ℕ, zero, suc, ◌+◌, max, Bool, true, false, List, [], ◌∷◌, length}
+use Rattle.std.specs.Prelude.{ℕ, suc, ◌+◌, Bool, true, false, List, [], ◌∷◌, length}
 use Rattle.std.proofs.Math.Option.{Option, none, some}
 use Rattle.keycode.specs.Tests.{pick}
 use Rattle.keycode.specs.Order.{compare_bytes, by_order}

@@ -9,7 +9,7 @@ use mathlib.Core.Option.{Option, none}
 use mathlib.Core.List.{List}
 use native.Mathlib.Decide.{ℕ_discrete, dec_lt}
 use Rattle.isolation.specs.history.History.{Key, Bytes}
-use Rattle.isolation.specs.history.History.{began, History, Status, unborn, opened, done, rolled, status, past, is_in, Clash, Late, keep, below, up_to}
+use Rattle.isolation.specs.history.History.{History, Status, unborn, opened, done, rolled, status, past, is_in, Clash, Late, keep, up_to}
 use Rattle.isolation.proofs.history.Standing.{begins, Good, stored, Hidden, from, Peak, flat, peak_at}
 use mathlib.Core.Bool.{not, ◌&&◌}
 use lib.Dec.{leb}

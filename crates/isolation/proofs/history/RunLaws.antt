@@ -8,18 +8,18 @@ use mathlib.Core.Option.{Option, none, some}
 use mathlib.Core.List.{List, [], ◌∷◌}
 use Rattle.isolation.specs.history.History.{is_open, Key, Bytes}
 use Rattle.mvcc.specs.world.Runs.{After, now, later}
-use Rattle.isolation.specs.history.History.{Sight, began, noted, History, unborn, opened, done, status, last_write, past, laid, over, is_in, Clash, keep, below, up_to, lowest}
+use Rattle.isolation.specs.history.History.{Sight, began, noted, History, unborn, opened, status, last_write, past, laid, over, is_in, Clash, keep, below, up_to, lowest}
 use mathlib.Core.Bool.{not, ◌&&◌}
 use lib.Dec.{leb, ltb}
 use borrow.Author.Tests.{not-false, le-ltb, le-leb}
-use Rattle.isolation.proofs.history.FactLaws.{nope, outside, same, good-after, born, within, start}
+use Rattle.isolation.proofs.history.FactLaws.{nope, outside, good-after, born, within, start}
 use Rattle.isolation.proofs.history.ViewLaws.{Given, given, past_is, low_of, reach_of, top_congr, top_unique, reader_top, writer_top, keep-none}
 use Rattle.isolation.specs.history.Store.{is_some}
 use Prim.Native.Nat.{Ordering}
 use mathlib.Core.Bool.{cond}
 use lib.ListN.{length}
 use Rattle.isolation.specs.history.Store.{is_some}
-use Rattle.keycode.specs.key.Keys.{Fields, next_version, txn_active, txn_active_snapshot, version}
+use Rattle.keycode.specs.key.Keys.{Fields, next_version, txn_active, txn_active_snapshot}
 use Rattle.isolation.specs.history.Records.{Rec, plain_rec, Map, look, Sorted, sorted_nil, Order}
 use Rattle.isolation.specs.history.Calls.{next_of, set_of, view, actives, begin_handle, write_map, commit_map, rollback_map, shown, conflict, visible, versions_of, last_of, last_version, searched}
 use Rattle.isolation.specs.history.Run.{Entry, begin_e, read_e, as_of_e, write_e, commit_e, rollback_e, other_e, Trace, event, events, Gave, by_begin, by_read, by_as_of, usable, pick, too_long, write_number, wrote_map, Run, run-empty, do_begin, do_read, do_as_of, do_write, do_noroom, do_commit, do_rollback, do_plain, do_other}

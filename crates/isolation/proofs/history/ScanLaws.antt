@@ -15,7 +15,7 @@ use borrow.Author.Tests.{not-true}
 use Rattle.isolation.specs.history.History.{Sight}
 use Rattle.isolation.specs.history.Calls.{item_of, view}
 use Rattle.isolation.proofs.history.MapLaws.{look-here, look-past}
-use Rattle.isolation.specs.history.Calls.{versions_of, last_of, flat, hides, conflict}
+use Rattle.isolation.specs.history.Calls.{versions_of, last_of, flat, hides}
 use Rattle.isolation.specs.history.History.{up_to}
 use Rattle.isolation.proofs.history.Standing as Hs
 use Rattle.isolation.proofs.history.Standing.{Peak, peak_at, Top, nowhere, top_at, Hidden}

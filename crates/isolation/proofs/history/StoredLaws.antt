@@ -9,9 +9,9 @@ use mathlib.Core.List.{◌∷◌}
 use native.Mathlib.Decide.{ℕ_discrete}
 use Rattle.isolation.specs.history.History.{Key, Bytes, key≟}
 use Rattle.isolation.specs.history.History.{Sight, Event, began, wrote, committed, undone, noted, History, Status, Status-discrete, unborn, opened, done, rolled, status, last_write, past, Clash}
-use Rattle.isolation.proofs.history.Standing.{Good, good_nil, good_cons, Guard, g_began, g_wrote, g_committed, g_undone, g_noted, live, stored}
+use Rattle.isolation.proofs.history.Standing.{Good, good_nil, good_cons, Guard, g_began, g_wrote, g_committed, g_undone, g_noted, stored}
 use Rattle.isolation.proofs.history.EventLaws.{status-began, status_began_other, status-wrote, status-noted, status-committed, status_committed_other, status-undone, status_undone_other, write_began, write_committed, write_undone, write_noted, write_same, write_other_txn, write_other_key, past_began_other, past-wrote, past-committed, past-undone, past-noted}
-use Rattle.isolation.proofs.history.FactLaws.{nope, outside, move, good-after, within, unborn_writes, Start, start}
+use Rattle.isolation.proofs.history.FactLaws.{nope, outside, good-after, within, unborn_writes, Start, start}
 
 pub stored_began : {H : History} {h : Sight} → Good H → Guard H (began h) → (k : Key) (v : ℕ) → stored (began h ∷ H) k v ≡ stored H k v
 stored_began {H} {h} g (g_began e s lw) k v = go (ℕ_discrete h.ver v)

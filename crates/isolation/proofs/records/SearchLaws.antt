@@ -14,7 +14,6 @@ use Rattle.keycode.specs.key.Keys.{encode, version}
 use Rattle.keycode.proofs.key.KeyLaws.{decode_encode}
 use Rattle.bitcask.specs.keydir.Place.{All, all_none, all_more}
 use Rattle.bitcask.specs.declared.append.Check.{Check}
-use Rattle.bitcask.specs.declared.append.Check.TheVariants as Check
 use Rattle.mvcc.specs.declared.handle.Handle.{Handle}
 use Rattle.mvcc.specs.handle.Handles.{set_of, sees}
 use Rattle.mvcc.specs.payload.Payloads.{Versions}

@@ -5,23 +5,20 @@ use mathlib.Core.Bool.{Bool, true, false, not}
 use mathlib.Core.List.{List}
 use lib.ListN.{length, take}
 use borrow.Author.Tests.{not-true, not-false}
-use Rattle.keycode.specs.Tests.{pick}
 use Rattle.keycode.specs.declared.refusal.Refusal.{Refusal}
 use Rattle.keycode.specs.declared.refusal.Refusal.TheVariants.{NotOpen, BadRequest}
 use Rattle.keycode.proofs.Basics.{nope}
 use Rattle.bitcask.specs.declared.request.Used.{Used}
 use Rattle.bitcask.specs.recovery.Agree.{fit, Agrees}
 use Rattle.bitcask.specs.declared.append.Check.{Check}
-use Rattle.bitcask.specs.declared.append.Check.TheVariants as Check
 use Rattle.bitcask.specs.declared.engine.mark.Mark.{Mark}
 use Rattle.bitcask.specs.declared.engine.mark.Entered.{Entered}
-use Rattle.bitcask.specs.declared.engine.mark.Entered.TheVariants as Entered
 use Rattle.bitcask.specs.engine.Rows.{Row, rows}
 use Rattle.bitcask.specs.engine.Marks.{mark_of, entered_by, Held, Agreeing}
 use Rattle.bitcask.specs.engine.Spots.{has_row}
 use Rattle.bitcask.proofs.engine.RowLaws.{rows_agree}
 use Rattle.bitcask.proofs.engine.LookLaws.{has_in}
-use Rattle.bitcask.proofs.engine.SpotLaws.{enter_in, in_fits, in_held, refused_fits}
+use Rattle.bitcask.proofs.engine.SpotLaws.{in_fits, in_held, refused_fits}
 use Rattle.mvcc.specs.declared.handle.Handle.{Handle}
 use Rattle.mvcc.specs.handle.Handles.{sound_handle}
 use Rattle.keycode.specs.declared.code.Code.{Code}

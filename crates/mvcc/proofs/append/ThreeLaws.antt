@@ -11,7 +11,6 @@ use Rattle.keycode.specs.declared.order.Order.TheVariants.{Less}
 use Rattle.keycode.proofs.OrderLaws.{compare_trans}
 use Rattle.bitcask.specs.entry.Entry.{Entry, set, size_of}
 use Rattle.bitcask.specs.declared.keydir.place.Found.{Found as Place}
-use Rattle.bitcask.specs.declared.keydir.place.Found.TheVariants as Place
 use Rattle.bitcask.specs.keydir.Slots.{slot_words, slots_of}
 use Rattle.bitcask.specs.keydir.Place.{Among, place_of, all_none, all_more}
 use Rattle.bitcask.specs.declared.request.Changed.TheVariants as Change

@@ -1,5 +1,5 @@
 -- The search for conflicts: what the code answers, in the words of the map, and its numbers. Assumes nothing.
-use Prim.Native.Nat.{ℕ, suc, ◌≤◌, ◌<◌}
+use Prim.Native.Nat.{ℕ, ◌≤◌, ◌<◌}
 use mathlib.Core.Path.{◌≡◌, refl, sym, ap, ◌∙◌}
 use mathlib.Core.Bool.{Bool, true, false}
 use mathlib.Core.List.{List, [], ◌∷◌, ◌++◌}
@@ -26,7 +26,6 @@ use Rattle.keycode.specs.code.Codes.{Codes}
 use Rattle.bitcask.specs.declared.engine.mark.Mark.{Mark}
 use Rattle.bitcask.specs.declared.engine.spot.Spot.{Spot}
 use Rattle.bitcask.specs.declared.engine.walk.Near.{Near}
-use Rattle.bitcask.specs.declared.engine.walk.Near.TheVariants as Near
 use Rattle.bitcask.specs.engine.Rows.{Row, rows, pairs}
 use Rattle.bitcask.specs.engine.Marks.{Agreeing}
 use Rattle.bitcask.specs.engine.Spots.{rank, row_at, upto_rank}

@@ -1,6 +1,6 @@
 -- Get keeps its promise. Assumes nothing.
 use Prim.Native.Nat.{ℕ, ◌≤◌, ◌<◌}
-use mathlib.Core.Path.{◌≡◌, refl, sym, ap, ◌∙◌}
+use mathlib.Core.Path.{◌≡◌, refl, ap, ◌∙◌}
 use mathlib.Core.Bool.{Bool, true, false, not}
 use mathlib.Core.List.{List}
 use lib.Dec.{leb, eqb}
@@ -11,9 +11,7 @@ use Rattle.keycode.specs.Limits.{max_key}
 use Rattle.keycode.specs.declared.refusal.Refusal.{Refusal}
 use Rattle.keycode.specs.declared.refusal.Refusal.TheVariants.{KeyTooLong}
 use Rattle.bitcask.specs.declared.request.Used.{Used}
-use Rattle.bitcask.specs.recovery.Agree.{fit, Agrees}
-use Rattle.bitcask.specs.declared.append.Check.{Check}
-use Rattle.bitcask.specs.declared.append.Check.TheVariants as Check
+use Rattle.bitcask.specs.recovery.Agree.{fit}
 use Rattle.bitcask.specs.declared.answers.Located.{Located}
 use Rattle.bitcask.specs.declared.answers.Located.TheVariants as Got
 use Rattle.bitcask.specs.read.Promises.{located_number}
@@ -31,7 +29,7 @@ use Rattle.mvcc.specs.version.Seen.{located_seen}
 use Rattle.mvcc.specs.read.Promises.{checked, get_answer, Gets}
 use Rattle.mvcc.specs.declared.admission.Admitted.{Admitted}
 use Rattle.mvcc.specs.declared.admission.Admitted.TheVariants.{Fine, Refused}
-use Rattle.mvcc.specs.admission.Admits.{check_of, Admits}
+use Rattle.mvcc.specs.admission.Admits.{Admits}
 use Rattle.mvcc.specs.version.Seen.{last_rows, version_rows}
 use Rattle.mvcc.proofs.admission.AdmitLaws.{open_rows, fine_rows}
 use Rattle.mvcc.proofs.version.SeenLaws.{versions_agree}

@@ -11,7 +11,7 @@ use Rattle.bitcask.specs.declared.keydir.place.Found.{Found}
 use Rattle.bitcask.specs.declared.keydir.place.Found.TheVariants.{At, Before}
 use Rattle.bitcask.specs.keydir.Slots.{slots_of}
 use Rattle.bitcask.specs.keydir.Place.{count_of, place_of, place_in}
-use Rattle.bitcask.specs.recovery.Map.{look_in, is_some, live_in}
+use Rattle.bitcask.specs.recovery.Map.{is_some, live_in}
 use Rattle.bitcask.specs.recovery.Recover.{recovered, map_of}
 use Rattle.bitcask.specs.recovery.Agree.{Agrees}
 use Rattle.bitcask.proofs.recovery.ViewLaws.{value_at, look-view}

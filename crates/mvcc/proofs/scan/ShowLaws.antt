@@ -19,7 +19,6 @@ use Rattle.bitcask.specs.recovery.Map.{Pair as MapPair, pairs_of}
 use Rattle.bitcask.specs.recovery.Recover.{map_of}
 use Rattle.bitcask.specs.recovery.Agree.{fit, Agrees}
 use Rattle.bitcask.specs.declared.append.Check.{Check}
-use Rattle.bitcask.specs.declared.append.Check.TheVariants as Check
 use Rattle.bitcask.specs.declared.answers.Stepped.{Stepped}
 use Rattle.bitcask.specs.declared.answers.Stepped.TheVariants as Step
 use Rattle.bitcask.specs.read.Promises.{stepped_number}

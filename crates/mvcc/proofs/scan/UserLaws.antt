@@ -1,6 +1,6 @@
 -- The steps' tests of a Version key are tests of its user key alone: within the bounds, or beginning with the prefix, and past the last
 -- given key. So a step reads all versions of a user key or none. Assumes nothing.
-use Prim.Native.Nat.{ℕ, ◌-◌, ◌^◌, ◌≤◌, ◌<◌}
+use Prim.Native.Nat.{ℕ, ◌^◌, ◌≤◌, ◌<◌}
 use mathlib.Core.Path.{◌≡◌, refl, sym, ap, ◌∙◌}
 use mathlib.Core.Bool.{Bool, true, false}
 use mathlib.Core.List.{List, [], ◌∷◌}

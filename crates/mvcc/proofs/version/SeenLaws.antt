@@ -1,11 +1,10 @@
 -- What the rows of a key say to a handle: what the code answers, for any table, and in the words of recovery. Assumes nothing.
-use Prim.Native.Nat.{ℕ, zero, suc, ◌+◌, ◌-◌, ◌^◌, ◌≤◌, ◌<◌}
+use Prim.Native.Nat.{ℕ, ◌+◌, ◌^◌, ◌≤◌, ◌<◌}
 use mathlib.Core.Path.{◌≡◌, refl, sym, ap, ◌∙◌}
 use mathlib.Core.Bool.{Bool, true, false}
 use mathlib.Core.List.{List, [], ◌∷◌, ◌++◌}
 use native.Mathlib.Omega.{arith}
-use lib.ListN.{length, take, drop, length-take, length-drop}
-use Rattle.keycode.specs.Tests.{pick}
+use lib.ListN.{length, take}
 use Rattle.keycode.specs.Limits.{max_key}
 use Rattle.keycode.specs.declared.parts.Part.{Part}
 use Rattle.keycode.specs.declared.refusal.Refusal.{Refusal}
@@ -27,7 +26,6 @@ use Rattle.keycode.specs.code.Codes.{Codes}
 use Rattle.bitcask.specs.declared.engine.mark.Mark.{Mark}
 use Rattle.bitcask.specs.declared.engine.spot.Spot.{Spot}
 use Rattle.bitcask.specs.declared.engine.walk.Near.{Near}
-use Rattle.bitcask.specs.declared.engine.walk.Near.TheVariants as Near
 use Rattle.bitcask.specs.engine.Rows.{Row, rows, key_place, value_place, rows_in}
 use Rattle.bitcask.specs.engine.Marks.{Agreeing}
 use Rattle.bitcask.specs.engine.Spots.{rank, row_at, upto_rank}
@@ -36,7 +34,6 @@ use Rattle.bitcask.specs.engine.Walks.{near_rank, before_in, down_from}
 use Rattle.bitcask.proofs.engine.WalkLaws.{walk_over, walk_on}
 use Rattle.bitcask.proofs.engine.RangeLaws.{down_agrees}
 use Rattle.mvcc.specs.declared.version.Label.{Label}
-use Rattle.mvcc.specs.declared.version.Label.TheVariants as Label
 use Rattle.mvcc.specs.declared.version.Record.TheVariants.{Junk, Good}
 use Rattle.mvcc.specs.declared.version.Seen.{Seen}
 use Rattle.mvcc.specs.declared.version.Seen.TheVariants.{Hidden, Gone, Bad, Value}

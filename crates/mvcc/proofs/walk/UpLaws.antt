@@ -3,11 +3,10 @@
 use Prim.Native.Nat.{ℕ, suc, ◌≤◌, ◌<◌}
 use mathlib.Core.Path.{◌≡◌, refl, sym, ap, ◌∙◌, subst}
 use mathlib.Core.Bool.{Bool, true, false}
-use mathlib.Core.Option.{Option, none, some}
+use mathlib.Core.Option.{none, some}
 use mathlib.Core.List.{List, [], ◌∷◌}
 use native.Mathlib.Decide.{dec_lt}
 use native.Mathlib.Omega.{arith}
-use lib.Dec.{ltb}
 use lib.ListN.{length, drop, get_or, drop_of_length-le}
 use lib.Seq.{drop-cons, take-length}
 use borrow.Author.Tests.{lt-ltb, le-ltb}
@@ -24,7 +23,6 @@ use Rattle.bitcask.specs.declared.answers.Bound.TheVariants.{Included, Excluded,
 use Rattle.bitcask.specs.read.Ranks.{admits_low, admits_high}
 use Rattle.bitcask.specs.declared.engine.spot.Spot.{Spot}
 use Rattle.bitcask.specs.declared.engine.walk.Near.{Near}
-use Rattle.bitcask.specs.declared.engine.walk.Near.TheVariants as Near
 use Rattle.bitcask.specs.engine.Rows.{Row, blank, pairs, rows_in}
 use Rattle.bitcask.specs.engine.Spots.{rank, row_at, order_in, from_rank}
 use Rattle.bitcask.specs.engine.Ranges.{inside, keep_rows, rows_from, range_of}

@@ -1,11 +1,10 @@
 -- The walk over rows, by what the code has learnt of each. Assumes nothing.
-use Prim.Native.Nat.{ℕ, suc, ◌+◌, ◌-◌, ◌≤◌, ◌<◌}
+use Prim.Native.Nat.{ℕ, suc, ◌+◌, ◌-◌, ◌<◌}
 use mathlib.Core.Path.{◌≡◌, refl, sym, ap, ◌∙◌}
 use mathlib.Core.Bool.{Bool, true, false}
 use mathlib.Core.List.{List, [], ◌∷◌}
 use native.Mathlib.Omega.{arith}
 use lib.ListN.{length}
-use Rattle.keycode.specs.Tests.{pick}
 use Rattle.keycode.specs.Order.{compare_bytes}
 use Rattle.keycode.specs.declared.order.Order.{Order}
 use Rattle.keycode.specs.declared.parts.Part.{Part}
@@ -16,7 +15,6 @@ use Rattle.bitcask.specs.declared.answers.Stepped.{Stepped}
 use Rattle.bitcask.specs.declared.answers.Stepped.TheVariants as Step
 use Rattle.bitcask.specs.declared.engine.spot.Spot.{Spot}
 use Rattle.bitcask.specs.declared.engine.walk.Near.{Near}
-use Rattle.bitcask.specs.declared.engine.walk.Near.TheVariants as Near
 use Rattle.bitcask.specs.engine.Rows.{Row}
 use Rattle.bitcask.specs.engine.Spots.{rank, row_at}
 use Rattle.bitcask.specs.engine.Walks.{near_rank, from_in}

@@ -22,7 +22,6 @@ use Rattle.bitcask.specs.declared.request.Changed.TheVariants as Change
 use Rattle.bitcask.specs.recovery.Agree.{fit, Agrees}
 use Rattle.bitcask.specs.recovery.Promises.{changed_number}
 use Rattle.bitcask.specs.declared.append.Check.{Check}
-use Rattle.bitcask.specs.declared.append.Check.TheVariants as Check
 use Rattle.bitcask.specs.change.Append.{append_answer}
 use Rattle.keycode.specs.declared.code.Code.{Code}
 use Rattle.keycode.specs.code.Codes.{Codes}
@@ -30,7 +29,7 @@ use Rattle.bitcask.specs.declared.engine.mark.Mark.{Mark}
 use Rattle.bitcask.specs.declared.engine.mark.Entered.TheVariants as Entered
 use Rattle.bitcask.specs.engine.Rows.{rows, pairs}
 use Rattle.bitcask.specs.engine.Spots.{has_row}
-use Rattle.bitcask.specs.engine.Marks.{mark_of, entered_by, Held, Agreeing}
+use Rattle.bitcask.specs.engine.Marks.{mark_of, entered_by, Held}
 use Rattle.bitcask.proofs.engine.SpotLaws.{in_held}
 use Rattle.mvcc.specs.declared.handle.Handle.{Handle}
 use Rattle.mvcc.specs.handle.Handles.{sound_handle}

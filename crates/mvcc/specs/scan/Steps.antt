@@ -21,7 +21,6 @@ use Rattle.mvcc.specs.handle.Handles.{sees}
 use Rattle.mvcc.specs.payload.Payloads.{value_in, value_at}
 use Rattle.mvcc.specs.request.Checks.{check_number, on_fine}
 use Rattle.mvcc.specs.declared.version.Label.{Label}
-use Rattle.mvcc.specs.declared.version.Label.TheVariants as Label
 use Rattle.mvcc.specs.version.Seen.{label_by}
 use Rattle.mvcc.specs.walk.Walks.{is_equal, part_of}
 

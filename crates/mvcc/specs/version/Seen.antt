@@ -27,7 +27,6 @@ use Rattle.mvcc.specs.declared.payload.ValueRead.TheVariants as Payload
 use Rattle.mvcc.specs.handle.Handles.{sees}
 use Rattle.mvcc.specs.payload.Payloads.{value_in, value_at}
 use Rattle.mvcc.specs.declared.version.Label.{Label}
-use Rattle.mvcc.specs.declared.version.Label.TheVariants as Label
 use Rattle.mvcc.specs.declared.version.Record.{Record}
 use Rattle.mvcc.specs.declared.version.Record.TheVariants.{Junk, Good}
 use Rattle.mvcc.specs.declared.version.Seen.{Seen}

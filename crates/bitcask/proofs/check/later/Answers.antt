@@ -1,4 +1,3 @@
-use Prim.Native.Nat.{◌-◌}
 use Rattle.bitcask.proofs.check.TellLaws.{looking_start, looking-over, looking-here, looking-next, looking_less}
 use borrow.Author.Rules.{rules}
 use Rattle.bitcask.proofs.check.later.Goals as goal

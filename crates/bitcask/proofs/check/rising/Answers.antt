@@ -1,4 +1,3 @@
-use Prim.Native.Nat.{◌-◌}
 use mathlib.Core.Path.{refl, sym, ◌∙◌}
 use Rattle.bitcask.specs.keydir.Slots.{slots_of}
 use Rattle.bitcask.proofs.keydir.SlotLaws.{slots_length}

@@ -1,4 +1,3 @@
-use Prim.Native.Nat.{◌-◌}
 use Rattle.bitcask.specs.keydir.Slots.{slots_of}
 use Rattle.bitcask.proofs.check.TellLaws.{walking_start, walking_end, walking_cut, walking_wrong, walking_less, walking_early, walking_exact, seen_stands}
 use borrow.Author.Rules.{rules}

@@ -1,4 +1,3 @@
-use Prim.Native.Nat.{◌-◌}
 use mathlib.Core.Path.{refl, sym, ◌∙◌}
 use Rattle.bitcask.proofs.check.TellLaws.{zero_end, zero_turn, zero-stop}
 use Rattle.bitcask.proofs.check.zeros.Goals as goal

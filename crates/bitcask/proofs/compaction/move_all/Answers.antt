@@ -1,4 +1,3 @@
-use Prim.Native.Nat.{◌-◌}
 use Rattle.bitcask.proofs.compaction.MoveLaws.{moving_start, moving_words, moving_bytes, moving_room, moving_more, moving_end}
 use Rattle.bitcask.proofs.compaction.move_all.Goals as goal
 

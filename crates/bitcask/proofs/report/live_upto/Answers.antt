@@ -1,4 +1,3 @@
-use Prim.Native.Nat.{◌-◌}
 use Rattle.bitcask.proofs.compaction.LiveLaws.{sum_start, sum_end, sum_over, sum_more}
 use Rattle.bitcask.proofs.report.live_upto.Goals as goal
 

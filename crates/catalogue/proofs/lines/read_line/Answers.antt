@@ -1,4 +1,4 @@
-use Rattle.std.proofs.Common.{◌-◌, rules}
+use Rattle.std.proofs.Common.{rules}
 use Rattle.catalogue.proofs.lines.read_line.Goals as goal
 
 pub loop-n-preserved : goal.loop-n-preserved

@@ -1,4 +1,3 @@
-use Prim.Native.Nat.{◌-◌}
 use mathlib.Core.Path.{refl}
 use Rattle.codecs.proofs.StateLaws.{utf8_turn, utf8_end}
 use Rattle.codecs.proofs.utf8.is_utf8.Goals as goal

@@ -1,4 +1,3 @@
-use Prim.Native.Nat.{◌-◌}
 use mathlib.Core.Path.{refl, ◌∙◌}
 use Rattle.host.proofs.WalkLaws.{walk_start, walk_room, walk_over, walk_full, walk_next, walk_less}
 use Rattle.host.specs.Table.{words_in}
@@ -38,8 +37,7 @@ loop-table-smaller c =
     c.in-Next.is
 
 pub loop-table-preserved : goal.loop-table-preserved
-loop-table-preserved c =
-    (
+loop-table-preserved c = (
   walk_next c.loop-table.invariant.0 c.take_entry-took.ensures _ _
       c.in-Next.is,
   c.take_entry-took.auto.table ∙ c.loop-table.invariant.1,

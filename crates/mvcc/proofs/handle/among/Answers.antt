@@ -1,4 +1,3 @@
-use Prim.Native.Nat.{◌-◌}
 use mathlib.Core.Path.{refl}
 use Rattle.mvcc.proofs.handle.HandleLaws.{memb_end, memb-here, memb-next}
 use Rattle.mvcc.proofs.handle.among.Goals as goal

@@ -1,4 +1,3 @@
-use Prim.Native.Nat.{◌-◌}
 use mathlib.Core.Path.{refl}
 use Rattle.mvcc.proofs.handle.HandleLaws.{rising_end, rising_not, rising-next}
 use Rattle.mvcc.proofs.handle.rises.Goals as goal

@@ -1,4 +1,3 @@
-use Prim.Native.Nat.{◌-◌}
 use Rattle.mvcc.proofs.payload.PayloadLaws.{lay-set, set_room, set-turn, set-laid}
 use native.Mathlib.Omega.{arith}
 use Rattle.mvcc.proofs.payload.put_versions.Goals as goal

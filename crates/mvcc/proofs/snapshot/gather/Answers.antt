@@ -1,4 +1,3 @@
-use Prim.Native.Nat.{◌-◌}
 use Rattle.mvcc.proofs.snapshot.ActiveLaws.{gather_start, gather_end, gather_stands, gather_bad, gather_more, gather_less, gather_fits}
 use native.Mathlib.Omega.{arith}
 use Rattle.mvcc.proofs.snapshot.gather.Goals as goal

@@ -1,4 +1,3 @@
-use Prim.Native.Nat.{◌-◌}
 use borrow.Author.Tests.{not-true, not-false}
 use Rattle.bitcask.specs.engine.Rows.{rows}
 use Rattle.mvcc.proofs.undo.UndoStepLaws.{test_start, test_end, test_stands, test_bad, test_next, test_less}

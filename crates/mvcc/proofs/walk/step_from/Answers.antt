@@ -1,5 +1,4 @@
 use mathlib.Core.Path.{refl}
-use Prim.Native.Nat.{◌-◌}
 use Rattle.mvcc.proofs.walk.WalkLaws.{walk_end, walk_stands, walk_less, walk_over, walk_more}
 use Rattle.mvcc.proofs.walk.step_from.Goals as goal
 

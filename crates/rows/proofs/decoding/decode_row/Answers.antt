@@ -1,4 +1,3 @@
-use Prim.Native.Nat.{◌-◌}
 use mathlib.Core.Path.{◌∙◌}
 use native.Mathlib.Omega.{arith}
 use Rattle.rows.proofs.FieldLaws.{reading_start, reading_many, reading_bad, reading_on, reading_over, reading_done}

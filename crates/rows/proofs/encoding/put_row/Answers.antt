@@ -1,4 +1,3 @@
-use Prim.Native.Nat.{◌-◌}
 use native.Mathlib.Omega.{arith}
 use Rattle.rows.proofs.EncodeLaws.{put_start, put-room, put_on, put_end}
 use Rattle.rows.proofs.encoding.put_row.Goals as goal

@@ -1,4 +1,3 @@
-use Prim.Native.Nat.{◌-◌}
 use Rattle.rows.proofs.EncodeLaws.{string_start, string_on, string_short, string_done}
 use Rattle.rows.proofs.encoding.string_room.Goals as goal
 

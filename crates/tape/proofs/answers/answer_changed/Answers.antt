@@ -3,8 +3,6 @@ use Rattle.bitcask.specs.declared.request.Changed.{Changed}
 use Rattle.bitcask.specs.recovery.Promises.{changed_number}
 use Rattle.tape.specs.format.Layout.{plainly}
 use Rattle.tape.proofs.AnswerLaws.{laid_for}
-use Rattle.tape.proofs.answers.put_refusal.Reads as put-refusal-reads
-use Rattle.tape.proofs.format.layout.put_plain.Reads as put-plain-reads
 use Rattle.tape.proofs.answers.answer_changed.Goals as goal
 
 -- src/answers.rt:90:1

@@ -1,8 +1,6 @@
 -- src/answers.rt:127:23
 use Rattle.tape.specs.Answers.{count_bytes}
 use Rattle.tape.proofs.AnswerLaws.{laid_for}
-use Rattle.tape.proofs.answers.put_refusal.Reads as put-refusal-reads
-use Rattle.tape.proofs.answers.put_word.Reads as put-word-reads
 use Rattle.tape.proofs.answers.answer_counted.Goals as goal
 
 -- src/answers.rt:122:1

@@ -2,8 +2,6 @@
 use Rattle.bitcask.specs.declared.request.Changed.{Changed}
 use Rattle.tape.specs.Answers.{given_bytes}
 use Rattle.tape.proofs.AnswerLaws.{laid_for}
-use Rattle.tape.proofs.answers.put_refusal.Reads as put-refusal-reads
-use Rattle.tape.proofs.answers.put_word.Reads as put-word-reads
 use Rattle.tape.proofs.answers.answer_given.Goals as goal
 
 -- src/answers.rt:45:1

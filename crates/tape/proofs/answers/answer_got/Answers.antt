@@ -2,9 +2,6 @@
 use mathlib.Core.Path.{sym}
 use Rattle.tape.specs.Answers.{value_bytes, got_bytes}
 use Rattle.tape.proofs.AnswerLaws.{laid_for}
-use Rattle.bitcask.proofs.read.part.Reads as part-reads
-use Rattle.tape.proofs.answers.answer_value.Reads as answer-value-reads
-use Rattle.tape.proofs.answers.put_refusal.Reads as put-refusal-reads
 use Rattle.tape.proofs.answers.answer_got.Goals as goal
 
 -- src/answers.rt:79:1

@@ -1,8 +1,6 @@
 -- src/answers.rt:116:23
 use Rattle.tape.specs.Answers.{used_bytes}
 use Rattle.tape.proofs.AnswerLaws.{laid_for}
-use Rattle.tape.proofs.answers.put_refusal.Reads as put-refusal-reads
-use Rattle.tape.proofs.answers.put_word.Reads as put-word-reads
 use Rattle.tape.proofs.answers.answer_used.Goals as goal
 
 -- src/answers.rt:111:1

@@ -1,8 +1,6 @@
 -- src/answers.rt:71:9
 use native.Mathlib.Omega.{arith}
 use Rattle.tape.proofs.AnswerLaws.{value-over, value-laid}
-use Rattle.tape.proofs.format.layout.put_plain.Reads as put-plain-reads
-use Rattle.tape.proofs.format.layout.put_record.Reads as put-record-reads
 use Rattle.tape.proofs.answers.answer_value.Goals as goal
 
 -- src/answers.rt:72:9

@@ -1,7 +1,6 @@
 -- src/answers.rt:105:35
 use mathlib.Core.Path.{◌∙◌, sym, ap}
 use Rattle.tape.specs.Answers.{emptied_by}
-use Rattle.tape.proofs.format.slots.empty.Reads as empty-reads
 use Rattle.tape.proofs.answers.empty_ended.Goals as goal
 
 -- src/answers.rt:100:1

@@ -3,7 +3,6 @@ use Rattle.mvcc.proofs.handle.HandleLaws.{full}
 use mathlib.Core.Path.{◌∙◌, sym, ap}
 use Rattle.bitcask.specs.declared.request.Changed.{Changed}
 use Rattle.tape.specs.Answers.{filled_with}
-use Rattle.tape.proofs.format.slots.fill.Reads as fill-reads
 use Rattle.tape.proofs.answers.fill_given.Goals as goal
 
 -- src/answers.rt:55:1

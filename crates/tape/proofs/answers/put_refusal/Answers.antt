@@ -3,8 +3,6 @@ use Prim.Native.Nat.{ℕ}
 use mathlib.Core.Path.{sym}
 use Rattle.tape.specs.format.Layout.{plainly}
 use Rattle.tape.proofs.AnswerLaws.{laid_for}
-use Rattle.tape.proofs.format.layout.put_plain.Reads as put-plain-reads
-use Rattle.keycode.proofs.refusal.number_of.Reads as number-of-reads
 use Rattle.tape.proofs.answers.put_refusal.Goals as goal
 
 -- src/answers.rt:36:1

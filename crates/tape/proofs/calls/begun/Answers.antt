@@ -1,8 +1,5 @@
 -- src/calls.rt:42:9
 use Rattle.tape.proofs.CallLaws.{begun-writing, begun_reading, begun_as_of}
-use Rattle.mvcc.proofs.as_of.begin_as_of.Reads as begin-as-of-reads
-use Rattle.mvcc.proofs.read_only.begin_read_only.Reads as begin-read-only-reads
-use Rattle.mvcc.proofs.start.begin.Reads as begin-reads
 use Rattle.tape.proofs.calls.begun.Goals as goal
 
 -- src/calls.rt:42:9

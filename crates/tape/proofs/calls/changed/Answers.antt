@@ -1,6 +1,5 @@
 -- src/calls.rt:100:9
 use Rattle.tape.proofs.CallLaws.{set_done, delete_done}
-use Rattle.mvcc.proofs.write.delete.Reads as delete-reads
 use Rattle.tape.proofs.calls.changed.Goals as goal
 
 -- src/calls.rt:100:9

@@ -1,9 +1,5 @@
 -- src/calls.rt:145:9
 use Rattle.tape.proofs.CallLaws.{end_lays}
-use Rattle.tape.proofs.answers.answer_changed.Reads as answer-changed-reads
-use Rattle.tape.proofs.answers.empty_ended.Reads as empty-ended-reads
-use Rattle.tape.proofs.calls.ended.Reads as ended-reads
-use Rattle.tape.proofs.state.used_after.Reads as used-after-reads
 use Rattle.tape.proofs.calls.end.Goals as goal
 
 -- src/calls.rt:133:1

@@ -1,7 +1,5 @@
 -- src/calls.rt:128:9
 use Rattle.tape.proofs.CallLaws.{commit_done, rollback_done}
-use Rattle.mvcc.proofs.end.commit.commit.Reads as commit-reads
-use Rattle.mvcc.proofs.end.rollback.rollback.Reads as rollback-reads
 use Rattle.tape.proofs.calls.ended.Goals as goal
 
 -- src/calls.rt:128:9

@@ -1,7 +1,5 @@
 -- src/calls.rt:83:9
 use Rattle.tape.proofs.CallLaws.{look-lays}
-use Rattle.mvcc.proofs.get.Reads as get-reads
-use Rattle.tape.proofs.answers.answer_got.Reads as answer-got-reads
 use Rattle.tape.proofs.calls.look.Goals as goal
 
 -- src/calls.rt:79:1

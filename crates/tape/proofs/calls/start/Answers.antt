@@ -1,9 +1,5 @@
 -- src/calls.rt:71:9
 use Rattle.tape.proofs.CallLaws.{start_lays}
-use Rattle.tape.proofs.answers.answer_given.Reads as answer-given-reads
-use Rattle.tape.proofs.answers.fill_given.Reads as fill-given-reads
-use Rattle.tape.proofs.calls.begun.Reads as begun-reads
-use Rattle.tape.proofs.calls.started_used.Reads as started-used-reads
 use Rattle.tape.proofs.calls.start.Goals as goal
 
 -- src/calls.rt:60:1

@@ -1,6 +1,5 @@
 -- src/calls.rt:55:9
 use Rattle.tape.proofs.CallLaws.{used-writing, used_reading}
-use Rattle.tape.proofs.state.used_after.Reads as used-after-reads
 use Rattle.tape.proofs.calls.started_used.Goals as goal
 
 -- src/calls.rt:55:9

@@ -1,7 +1,5 @@
 -- src/calls.rt:170:9
 use Rattle.tape.proofs.CallLaws.{tell_lays}
-use Rattle.bitcask.proofs.report.status.Reads as status-reads
-use Rattle.tape.proofs.answers.answer_counted.Reads as answer-counted-reads
 use Rattle.tape.proofs.calls.tell.Goals as goal
 
 -- src/calls.rt:166:1

@@ -1,8 +1,5 @@
 -- src/calls.rt:118:9
 use Rattle.tape.proofs.CallLaws.{write_lays}
-use Rattle.tape.proofs.answers.answer_changed.Reads as answer-changed-reads
-use Rattle.tape.proofs.calls.changed.Reads as changed-reads
-use Rattle.tape.proofs.state.used_after.Reads as used-after-reads
 use Rattle.tape.proofs.calls.write.Goals as goal
 
 -- src/calls.rt:105:1

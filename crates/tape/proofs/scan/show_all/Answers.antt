@@ -1,5 +1,4 @@
 use native.Mathlib.Omega.{arith}
-use Prim.Native.Nat.{◌-◌}
 use mathlib.Core.Path.{sym, ◌∙◌}
 use Rattle.tape.proofs.ScanLaws.{scan_start, scan_room, scan_turn, scan_over}
 use Rattle.tape.proofs.scan.show_all.Goals as goal

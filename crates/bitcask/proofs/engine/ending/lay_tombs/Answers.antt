@@ -1,4 +1,3 @@
-use Prim.Native.Nat.{◌-◌}
 use Rattle.bitcask.proofs.engine.EndLaws.{lay_start, lay-next, lay_end}
 use native.Mathlib.Omega.{arith}
 use Rattle.bitcask.proofs.engine.ending.lay_tombs.Goals as goal

@@ -1,4 +1,3 @@
-use Prim.Native.Nat.{◌-◌}
 use Rattle.bitcask.specs.engine.Rows.{rows}
 use Rattle.bitcask.proofs.engine.SpanLaws.{count_start, count_next, count_end, to-rows, here-rows, counted_is}
 use Rattle.bitcask.proofs.engine.span.span_room.Goals as goal

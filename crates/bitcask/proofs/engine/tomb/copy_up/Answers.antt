@@ -1,4 +1,3 @@
-use Prim.Native.Nat.{◌-◌}
 use Rattle.bitcask.proofs.engine.TombLaws.{copy_start, copy_next, copy_end}
 use native.Mathlib.Omega.{arith}
 use Rattle.bitcask.proofs.engine.tomb.copy_up.Goals as goal

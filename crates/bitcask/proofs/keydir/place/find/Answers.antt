@@ -1,4 +1,3 @@
-use Prim.Native.Nat.{◌-◌}
 use Rattle.bitcask.specs.keydir.Slots.{slots_of}
 use Rattle.bitcask.specs.keydir.Place.{order_at}
 use Rattle.bitcask.proofs.keydir.HalveLaws.{halving_start, halving_up, halving_at, halving_down, halving_end}

@@ -1,4 +1,3 @@
-use Prim.Native.Nat.{◌-◌}
 use mathlib.Core.Path.{refl}
 use lib.ListN.{length-set}
 use Rattle.bitcask.proofs.keydir.WordLaws.{clear_turn, clear_end}

@@ -1,4 +1,4 @@
-use Prim.Native.Nat.{◌+◌, ◌-◌}
+use Prim.Native.Nat.{◌+◌}
 use mathlib.Core.Path.{refl}
 use lib.ListN.{length-set}
 use Rattle.bitcask.proofs.keydir.WordLaws.{copy_none, down_turn, down_end}

@@ -1,6 +1,5 @@
 -- `put_all` puts in the new slots. The invariant: what is still to be put into the slots before `end`, and what stands behind the free
 -- slots, are what is put into all.
-use Prim.Native.Nat.{◌-◌}
 use Rattle.bitcask.specs.keydir.Slots.{slots_of}
 use Rattle.bitcask.proofs.merging.PutLaws.{Putting}
 use Rattle.bitcask.proofs.merging.put.put_all.Given as goal

@@ -10,8 +10,7 @@ returns-then-is_gone c =
     next-gone a.log.now a.table.now a.room.end a.room.left a.s (sym c.is_gone.ensures ∙ c.if-is_gone.true) c.requires.1
 
 pub put_one-end-requires : goal.put_one-end-requires
-put_one-end-requires c =
-    (
+put_one-end-requires c = (
   sym c.is_gone.ensures ∙ c.if-is_gone.false,
   omega (
     arith,

@@ -4,8 +4,7 @@ use Rattle.bitcask.proofs.recovery.PassLaws.{passing_start, passing_settled, pas
 use Rattle.bitcask.proofs.recovery.passing.pass_with.Goals as goal
 
 pub loop-left-init : goal.loop-left-init
-loop-left-init c =
-    (
+loop-left-init c = (
   let a = c.args in passing_start a.log.now a.used a.table.now a.pend.now a.count a.start a.most
       c.requires.0 c.requires.2 c.requires.3,
   refl,

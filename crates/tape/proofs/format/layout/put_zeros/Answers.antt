@@ -1,4 +1,3 @@
-use Prim.Native.Nat.{◌-◌}
 use Rattle.tape.proofs.format.LayoutLaws.{zero_start, zero_room, zero_turn, zero_end}
 use native.Mathlib.Omega.{arith}
 use Rattle.tape.proofs.format.layout.put_zeros.Goals as goal

@@ -1,4 +1,3 @@
-use Prim.Native.Nat.{◌-◌}
 use mathlib.Core.Path.{refl}
 use Rattle.tape.proofs.format.RequestLaws.{zero-all, zero_not, zero-next}
 use Rattle.tape.proofs.format.request.all_zero.Goals as goal

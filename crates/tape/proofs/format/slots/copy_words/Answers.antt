@@ -1,4 +1,3 @@
-use Prim.Native.Nat.{◌-◌}
 use lib.ListN.{drop_of_length-le}
 use Rattle.keycode.proofs.BufferLaws.{lay_start, lay_end}
 use Rattle.bitcask.proofs.entry.EntryLaws.{copy_turn, copy_room}
