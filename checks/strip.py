@@ -5,7 +5,8 @@ law of a file that the theorems do not reach."""
 import os
 import re
 
-NAMED = re.compile(r"^\s*(?:pub\s+)?use\s+Rattle·([a-z_]+)(·specs|·proofs)?\.([A-Za-z0-9_.]+)", re.M)
+NAMED = re.compile(r"^\s*(?:pub\s+)?use\s+Rattle\.([a-z_]+)\.(specs|proofs)\.([A-Za-z0-9_.]+)", re.M)
+ITEM = re.compile(r"(?:pub(?:\([a-z]+\))?\s+)?(?:unsafe\s+)?(?:extern\s+\"C\"\s+)?(fn|impl|ghost use|use)\b")
 
 
 def read(path):
@@ -15,10 +16,8 @@ def read(path):
 
 def named(text):
     """The modules that a file's use lines name: (crate, 'specs' or 'proofs', path of the module)."""
-    for crate, _, path in NAMED.findall(text):
-        parts = path.strip(".").split(".")
-        # the crate's own are Rattle·NAME·specs.specs.X, another's Rattle·NAME.specs.X
-        yield crate, parts[0], "/".join(parts[1:])
+    for crate, part, path in NAMED.findall(text):
+        yield crate, part, path.strip(".").replace(".", "/")
 
 
 def reached(root, top, crates):
@@ -44,27 +43,38 @@ def reached(root, top, crates):
     return found
 
 
+def types_used(item):
+    """A use item with those of its names alone that are types or constants, or nothing where none is: what has a small letter is a function."""
+    head, path, names, alone = re.fullmatch(r"((?:pub(?:\([a-z]+\))?\s+)?use)\s+([\w:]+?)::(?:\{([^}]*)\}|(\w+(?:\s+as\s+\w+)?));", item, re.S).groups()
+    kept = [n for n in re.split(r"\s*,\s*", (alone or names).strip()) if n[:1].isupper()]
+    return f"{head} {path}::{{{', '.join(kept)}}};" if kept else ""
+
+
 def types_alone(text):
     """A source file without its functions, and without what only they use."""
-    out, lines, i = [], text.split("\n"), 0
+    out, attributes, lines, i = [], [], text.split("\n"), 0
     while i < len(lines):
         line = lines[i]
-        item = re.match(r"^(?:pub(?:\([a-z]+\))?\s+)?(?:extern\s+\"C\"\s+)?(fn|impl)\b", line)
-        if item or line.startswith("#["):
-            if not line.startswith("#["):
-                # an item ends at the first brace in the first column, or on its own line
-                if not (line.endswith("}") and line.count("{") == line.count("}")):
-                    while lines[i] != "}":
-                        i += 1
-            i += 1
-            continue
         i += 1
-        if line.startswith("ghost use"):
+        if line.startswith("#["):
+            attributes.append(line)
             continue
-        use = re.match(r"^(?:pub(?:\([a-z]+\))?\s+)?use\s+([A-Za-z0-9_:]+)", line)
-        if use and use.group(1).split("::")[-1][0].islower():
-            continue
-        out.append(line)
+        item = ITEM.match(line)
+        if not item:
+            out += attributes + [line]
+        elif item.group(1) in ("fn", "impl"):
+            # it ends at the first brace in the first column, or on its own line
+            if not (line.endswith("}") and line.count("{") == line.count("}")):
+                while lines[i] != "}":
+                    i += 1
+                i += 1
+        else:
+            while not line.endswith(";"):
+                line += "\n" + lines[i]
+                i += 1
+            if item.group(1) == "use":
+                out.append(types_used(line))
+        attributes = []
     return "\n".join(out)
 
 
