@@ -191,7 +191,7 @@ class Run(unittest.TestCase):
         self.assertEqual((ran.returncode, ran.stdout[:11], ran.stderr), (0, b"usage: run ", b""))
 
     def test_what_the_program_says_is_told(self):
-        """A program has no exit status of its own."""
+        """The program's exit status tells nothing of it."""
         script(self.top / "program", "#!/bin/sh\ncat\necho 'bench: an answer was not written' >&2\n")
         self.ends(self.run_it("-", given=b"x"), 1, b"x", "run: building", "run: bench: an answer was not written\n")
         self.ends(self.run_it("--words", "-", given=BEGIN), 1, b"", "run: bench: an answer was not written\nrun: no answers to show")

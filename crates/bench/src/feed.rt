@@ -1,5 +1,8 @@
 // The records of a tape as they come, in chunks of any size, each answered before the next is read, so that whoever waits for an answer
 // has it. What is left at the end is a short record, and ends the run.
+ghost use Rattle.std.specs.Prelude.{◌≡◌, ◌<◌, ◌≤◌, length, take, IfOk};
+ghost use Rattle.std.specs.Io.KnownBytes.{Consumes, IsAtEnd};
+
 use bitcask::Used;
 use keycode::parts::clip;
 use std::io;
@@ -23,7 +26,8 @@ fn stopped(p: Place) -> Place {
     }
 }
 
-// The end of a run that did not answer its whole tape, on standard error, in a line of its own: a program has no exit status.
+// The end of a run that did not answer its whole tape, on standard error, in a line of its own: ./run goes by that, the program ends with 0
+// all the same.
 fn told(rt: &impl Eprint, p: Place, line: &str) -> Place {
     let _ = rt.eprintln(line);
     stopped(p)
@@ -58,10 +62,15 @@ fn answer<P: Print + Eprint>(
 }
 
 // How many bytes of the next record there are: as many as it has, but at the end of the tape.
-fn fill<T: Read>(tape: &mut T, record: &mut [u8]) -> io::Result<usize> {
+fn fill<T: Read>(tape: &mut T, bytes: &mut [u8]) -> io::Result<usize>
+    ensures len { length bytes.new ≡ length bytes.old }
+    ensures bound { IfOk result (λ n. n ≤ length bytes.new) }
+    ensures consumes { IfOk result (λ n. Consumes (T.remaining tape.old) (T.remaining tape.new) (take n bytes.new)) }
+    ensures end { IfOk result (λ n. n < length bytes.new → IsAtEnd (T.remaining tape.new)) }
+{
     let mut n = 0;
-    while n < record.len() {
-        let more = tape.read(&mut record[n..])?;
+    while n < bytes.len() {
+        let more = tape.read(&mut bytes[n..])?;
         if more == 0 {
             break;
         }
