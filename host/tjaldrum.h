@@ -1,6 +1,6 @@
 /* The functions that the static library of crate host exports, for C; a Rust host declares them alike in an `extern "C"` block.
  * What stands here is what their proved contracts in crates/host/src say. The numbers and their names are document 01's.
- * Link target/staticlib/libhost.a, which `rt staticlib host` writes, into a program for x86-64.
+ * Link crates/host/out/libhost.a, which `rt lib` in crates/host writes, into a program for x86-64.
  *
  * A byte slice is two arguments, pointer and length. What the caller owes, and no proof can give: the pointer is not null, also for a
  * slice of length 0; as many bytes can be read there (a buffer to write to: also written); a buffer to write to overlaps no other slice.

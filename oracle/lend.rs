@@ -1,4 +1,4 @@
-//! Ours, for the bench: crate timing's function out of the archive that `rt staticlib timing` writes, on buffers that this program lends. The
+//! Ours, for the bench: crate timing's function out of the archive that `rt lib` writes in crates/timing, on buffers that this program lends. The
 //! request stands on standard input as `oracle timing` takes it; the sum goes to standard output.
 
 use std::io::Read as _;

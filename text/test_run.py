@@ -16,13 +16,15 @@ from test_source import laid
 ROOT = pathlib.Path(__file__).resolve().parent.parent
 TOOLS = "sh cat cp dirname find mkdir readlink sha256sum sort uname".split()
 
-# It eats standard input, as a prover may, notes that it was called, and writes where answers would be mistaken for its own words.
+# It eats standard input, as a prover may, notes that it was called and in which crate, and writes where answers would be mistaken for its
+# own words. As rt does, it then runs what it built; it does not end with that one's status, which is 0 of the real one on an empty tape.
 RT = """#!/bin/sh
 cat >/dev/null
-echo "$@" >>rt-calls
+echo "$@" "${PWD##*/}" >>../../rt-calls
 echo 'proved'
-[ ! -e rt-fails ] || exit 1
-mkdir -p target/bin && cp program target/bin/bench
+[ ! -e ../../rt-fails ] || exit 1
+mkdir -p out && cp ../../program out/bench || exit 1
+out/bench </dev/null || exit 0
 """
 BEGIN = laid((0, b"\x01"))
 BEGUN = laid((1, b"\x01"), (11, b"\x01"))
@@ -78,12 +80,12 @@ class Run(unittest.TestCase):
         tape = self.outside / "a tape"
         tape.write_bytes(b"as it is")
         self.ends(self.run_it("a tape"), 0, b"as it is", "run: building", "proved")
-        self.assertEqual(self.builds(), ["check bench"])
+        self.assertEqual(self.builds(), ["run bench"])
         self.ends(self.run_it("a tape"), 0, b"as it is")
         source = self.top / "crates" / "bench" / "main.rt"
         source.touch()
         self.ends(self.run_it("a tape"), 0, b"as it is")
-        program = self.top / "target" / "bin" / "bench"
+        program = self.top / "crates" / "bench" / "out" / "bench"
         for count, change in enumerate((
             lambda: source.write_text("changed"),
             lambda: (self.top / "crates.txt").write_text("bench: more\n"),
@@ -118,7 +120,7 @@ class Run(unittest.TestCase):
 
     def test_a_build_without_a_program(self):
         script(self.tools / "rt", "#!/bin/sh\n")
-        self.ends(self.run_it("-"), 1, b"", "run: rt has no more to do, and there is no target/bin/bench: remove target/ and try again\n")
+        self.ends(self.run_it("-"), 1, b"", "run: rt has no more to do, and there is no crates/bench/out/bench: remove crates/bench/out/ and try again\n")
 
     def test_missing_commands(self):
         (self.tools / "rt").unlink()
@@ -189,7 +191,7 @@ class Run(unittest.TestCase):
         self.assertEqual((ran.returncode, ran.stdout[:11], ran.stderr), (0, b"usage: run ", b""))
 
     def test_what_the_program_says_is_told(self):
-        """A program has no exit status of its own."""
+        """The program's exit status tells nothing of it."""
         script(self.top / "program", "#!/bin/sh\ncat\necho 'bench: an answer was not written' >&2\n")
         self.ends(self.run_it("-", given=b"x"), 1, b"x", "run: building", "run: bench: an answer was not written\n")
         self.ends(self.run_it("--words", "-", given=BEGIN), 1, b"", "run: bench: an answer was not written\nrun: no answers to show")
@@ -214,12 +216,11 @@ class Run(unittest.TestCase):
 
     def test_another_processor(self):
         kit = self.outside / "kit"
-        tools = kit / "on/other/toolchain"
-        for folder in "bin", "lib":
-            (tools / folder).mkdir(parents=True)
+        tools = kit / "toolchain"
+        (tools / "lib").mkdir(parents=True)
         (self.tools / "uname").unlink()
         script(self.tools / "uname", "#!/bin/sh\necho other\n")
-        script(self.tools / "rt", RT.replace("cat >", f'[ "$1" != doc ] || {{ echo "{kit}/docs/START-HERE.md"; exit; }}\ncat >', 1))
-        script(tools / "bin/qemu-x86_64", '#!/bin/sh\necho "$@"\n')
-        words = f"{tools}/lib/ld-linux-x86-64.so.2 --library-path {tools}/lib {self.top}/target/bin/bench\n"
+        script(self.tools / "rt", RT.replace("cat >", f'[ "$1" != doc ] || {{ echo "{kit}/START-HERE.md"; exit; }}\ncat >', 1))
+        script(self.tools / "qemu-x86_64", '#!/bin/sh\necho "$@"\n')
+        words = f"{tools}/lib/ld-linux-x86-64.so.2 --library-path {tools}/lib {self.top}/crates/bench/out/bench\n"
         self.ends(self.run_it("-"), 0, words.encode(), "run: building")

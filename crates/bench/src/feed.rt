@@ -1,8 +1,12 @@
 // The records of a tape as they come, in chunks of any size, each answered before the next is read, so that whoever waits for an answer
 // has it. What is left at the end is a short record, and ends the run.
+ghost use Rattle.std.specs.Prelude.{◌≡◌, ◌<◌, ◌≤◌, length, take, IfOk};
+ghost use Rattle.std.specs.Io.KnownBytes.{Consumes, IsAtEnd};
+
 use bitcask::Used;
 use keycode::parts::clip;
-use libc::{STDERR_FILENO, STDIN_FILENO, STDOUT_FILENO};
+use std::io;
+use std::io::Read;
 use tape::format::layout::RECORD;
 use tape::{Taken, take};
 
@@ -22,14 +26,16 @@ fn stopped(p: Place) -> Place {
     }
 }
 
-// The end of a run that did not answer its whole tape, on standard error, in a line of its own: a program has no exit status.
-fn told(p: Place, line: &[u8]) -> Place {
-    io::write_all(STDERR_FILENO, line);
+// The end of a run that did not answer its whole tape, on standard error, in a line of its own: ./run goes by that, the program ends with 0
+// all the same.
+fn told(rt: &impl Eprint, p: Place, line: &str) -> Place {
+    let _ = rt.eprintln(line);
     stopped(p)
 }
 
 // One record, and its answers at once.
-fn answer(
+fn answer<P: Print + Eprint>(
+    rt: &P,
     first: &mut [u8],
     second: &mut [u8],
     table: &mut [u32],
@@ -46,22 +52,42 @@ fn answer(
                 other: t.other,
                 going: bytes.len() == RECORD,
             };
-            if io::write_all(STDOUT_FILENO, clip(answers, 0, t.len)) {
-                return n;
+            match rt.write_all(clip(answers, 0, t.len)) {
+                Ok(_) => n,
+                Err(_) => told(rt, n, "bench: an answer was not written"),
             }
-            told(n, b"bench: an answer was not written\n")
         }
-        Taken::Refused(_) => told(p, b"bench: a record was refused\n"),
+        Taken::Refused(_) => told(rt, p, "bench: a record was refused"),
     }
 }
 
-// Whether the tape has ended: a read that fails gives no byte either.
-fn over() -> bool {
-    let mut one = [0u8; 1];
-    libc::read(STDIN_FILENO, &mut one) == 0
+// How many bytes of the next record there are: as many as it has, but at the end of the tape.
+fn fill<T: Read>(tape: &mut T, bytes: &mut [u8]) -> io::Result<usize>
+    ensures len { length bytes.new ≡ length bytes.old }
+    ensures bound { IfOk result (λ n. n ≤ length bytes.new) }
+    ensures consumes { IfOk result (λ n. Consumes (T.remaining tape.old) (T.remaining tape.new) (take n bytes.new)) }
+    ensures end { IfOk result (λ n. n < length bytes.new → IsAtEnd (T.remaining tape.new)) }
+{
+    let mut n = 0;
+    while n < bytes.len() {
+        let more = tape.read(&mut bytes[n..])?;
+        if more == 0 {
+            break;
+        }
+        n += more;
+    }
+    Ok(n)
 }
 
-fn turn(
+// Whether the tape has ended: one that goes on behind its end, as a terminal may, was not read to its end.
+fn over<T: Read>(tape: &mut T) -> bool {
+    let mut one = [0u8; 1];
+    matches!(tape.read(&mut one), Ok(0))
+}
+
+fn turn<T: Read, P: Print + Eprint>(
+    tape: &mut T,
+    rt: &P,
     first: &mut [u8],
     second: &mut [u8],
     table: &mut [u32],
@@ -70,18 +96,32 @@ fn turn(
     answers: &mut [u8],
     p: Place,
 ) -> Place {
-    let n = io::read_full(STDIN_FILENO, record);
-    if n < RECORD && !over() {
-        return told(p, b"bench: the tape could not be read\n");
+    let n = match fill(tape, record) {
+        Ok(n) => n,
+        Err(_) => return told(rt, p, "bench: the tape could not be read"),
+    };
+    if n < RECORD && !over(tape) {
+        return told(rt, p, "bench: the tape could not be read");
     }
     if n == 0 {
         return stopped(p);
     }
-    answer(first, second, table, slots, clip(record, 0, n), answers, p)
+    answer(
+        rt,
+        first,
+        second,
+        table,
+        slots,
+        clip(record, 0, n),
+        answers,
+        p,
+    )
 }
 
 // A proved loop has to end, and nothing says that a tape does: so it counts its turns, down from a number that no run uses up.
-pub fn run(
+pub fn run<T: Read, P: Print + Eprint>(
+    tape: &mut T,
+    rt: &P,
     first: &mut [u8],
     second: &mut [u8],
     table: &mut [u32],
@@ -96,7 +136,7 @@ pub fn run(
     };
     let mut turns = u64::MAX;
     while 0 < turns && p.going {
-        p = turn(first, second, table, slots, record, answers, p);
+        p = turn(tape, rt, first, second, table, slots, record, answers, p);
         turns -= 1;
     }
 }

@@ -20,7 +20,7 @@ const SLOTS: usize = 304;
 // The answers of one record: a scan of as many pairs as the table has slots, and the record behind them.
 const ANSWERS: usize = 32896;
 
-fn main() {
+fn main(rt: HostRuntime) {
     let mut first = [0u8; LOG];
     let mut second = [0u8; LOG];
     let mut table = [0u32; WORDS];
@@ -29,6 +29,8 @@ fn main() {
     let mut answers = [0u8; ANSWERS];
     open(&first, Used { len: 0 }, &mut table);
     run(
+        &mut rt.stdin(),
+        &rt,
         &mut first,
         &mut second,
         &mut table,
