@@ -2,7 +2,7 @@
 // for the engine's calls and for the transactions'. On a table that was altered by hand a new key without a slot leaves the table.
 ghost use Rattle.std.specs.Prelude.{◌≡◌, ◌++◌, ◌+◌, ◌*◌, ◌≤◌, length};
 ghost use Rattle.keycode.specs.Limits.{max_log};
-ghost use Rattle.bitcask.specs.entry.Entry.{set as setEntry, del as delEntry, size_of};
+ghost use Rattle.bitcask.specs.entry.Entry.{set as set_entry, del as del_entry, size_of};
 ghost use Rattle.bitcask.specs.keydir.Slots.{slot_words, slots_of};
 ghost use Rattle.bitcask.specs.change.Append.{State, appended, room_after, judge, fresh_in};
 
@@ -88,8 +88,8 @@ pub fn append_set(
     body: &[u8],
 ) -> Mark
     requires { (mark.used + 8 + length key.now + length head.now + length body.now ≤ length log.old) × (length log.old ≤ max_log) × (slot_words * mark.count ≤ length table.old) }
-    ensures { record { log = log.exit.now; used = result.used; table = table.new; count = result.count }
-        ≡ appended (record { log = log.entry.now; used = mark.used; table = table.old; count = mark.count }) (setEntry key.now (head.now ++ body.now)) }
+    ensures { record { log = log.new; used = result.used; table = table.new; count = result.count }
+        ≡ appended (record { log = log.old; used = mark.used; table = table.old; count = mark.count }) (set_entry key.now (head.now ++ body.now)) }
 {
     let at = mark.used;
     let count = mark.count;
@@ -113,8 +113,8 @@ pub fn append_set(
 // A tombstone.
 pub fn append_del(log: &mut [u8], table: &mut [u32], mark: Mark, key: &[u8]) -> Mark
     requires { (mark.used + 8 + length key.now ≤ length log.old) × (length log.old ≤ max_log) × (slot_words * mark.count ≤ length table.old) }
-    ensures { record { log = log.exit.now; used = result.used; table = table.new; count = result.count }
-        ≡ appended (record { log = log.entry.now; used = mark.used; table = table.old; count = mark.count }) (delEntry key.now) }
+    ensures { record { log = log.new; used = result.used; table = table.new; count = result.count }
+        ≡ appended (record { log = log.old; used = mark.used; table = table.old; count = mark.count }) (del_entry key.now) }
 {
     let at = mark.used;
     let count = mark.count;

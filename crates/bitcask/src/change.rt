@@ -1,5 +1,5 @@
 // Set and delete, as toydb's BitCask (storage/bitcask.rs) has them: 13, then 7, then 8, then one entry.
-ghost use Rattle.bitcask.specs.entry.Entry.{set as setEntry, del as delEntry};
+ghost use Rattle.bitcask.specs.entry.Entry.{set as set_entry, del as del_entry};
 ghost use Rattle.bitcask.specs.change.Promises.{Changes};
 
 use crate::append::{Check, Mark, Room, append_del, append_set, fresh, judged, room_after};
@@ -9,7 +9,7 @@ use crate::request::{Changed, Used, fits};
 use keycode::Refusal;
 
 pub fn set(log: &mut [u8], used: Used, table: &mut [u32], key: &[u8], value: &[u8]) -> Changed
-    ensures { Changes log.old used.len table.old (setEntry key.now value.now) result log.new table.new }
+    ensures { Changes log.old used.len table.old (set_entry key.now value.now) result log.new table.new }
 {
     let at = used.len;
     let good = fits(log.len(), at, table.len());
@@ -39,7 +39,7 @@ pub fn set(log: &mut [u8], used: Used, table: &mut [u32], key: &[u8], value: &[u
 }
 
 pub fn delete(log: &mut [u8], used: Used, table: &mut [u32], key: &[u8]) -> Changed
-    ensures { Changes log.old used.len table.old (delEntry key.now) result log.new table.new }
+    ensures { Changes log.old used.len table.old (del_entry key.now) result log.new table.new }
 {
     let at = used.len;
     let good = fits(log.len(), at, table.len());

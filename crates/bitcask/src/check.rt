@@ -6,7 +6,7 @@ ghost use Rattle.keycode.specs.Order.{compare_bytes};
 ghost use Rattle.bitcask.specs.entry.Reading.{entry_at};
 ghost use Rattle.bitcask.specs.keydir.Slots.{slot_words, slots_of, free_slot, key_of};
 ghost use Rattle.bitcask.specs.recovery.Recover.{item_of, items};
-ghost use Rattle.bitcask.specs.check.Told.{zeroed, is_less, is_equal, risen, ahead_of, item_seen, later_in, against as againstOf, judged_in, walked_in};
+ghost use Rattle.bitcask.specs.check.Told.{zeroed, is_less, is_equal, risen, ahead_of, item_seen, later_in, against as against_of, judged_in, walked_in};
 ghost use Rattle.bitcask.specs.check.Promises.{Tells};
 
 use crate::entry::{Read, entry_at};
@@ -162,7 +162,7 @@ fn later(log: &[u8], used: usize, from: usize, key: &[u8]) -> bool
 
 // An entry against the slot that its key has.
 fn against(s: Slot, x: Slot, gone: bool) -> Judged
-    ensures { result ≡ againstOf s x gone }
+    ensures { result ≡ against_of s x gone }
 {
     if x.place < s.place {
         return Judged::Early;

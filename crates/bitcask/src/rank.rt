@@ -1,7 +1,7 @@
 // Ranks: how many keys are below one, and the numbers that bounds are. A range of keys is a range of numbers, which its callers walk.
 ghost use Rattle.std.specs.Prelude.{◌≡◌, ◌*◌, ◌≤◌, length};
 ghost use Rattle.bitcask.specs.keydir.Slots.{slot_words, slots_of};
-ghost use Rattle.bitcask.specs.read.Ranks.{below as belowOf, upto as uptoOf, from_bound, upto_bound};
+ghost use Rattle.bitcask.specs.read.Ranks.{below as below_of, upto as upto_of, from_bound, upto_bound};
 
 use crate::answers::Bound;
 use crate::keydir::{Found, find};
@@ -9,7 +9,7 @@ use crate::keydir::{Found, find};
 // How many keys are below one.
 fn below(log: &[u8], table: &[u32], count: usize, key: &[u8]) -> usize
     requires { slot_words * count ≤ length table.now }
-    ensures { (result ≡ belowOf log.now key.now (slots_of count table.now)) × (result ≤ count) }
+    ensures { (result ≡ below_of log.now key.now (slots_of count table.now)) × (result ≤ count) }
 {
     match find(log, table, count, key) {
         Found::At(i) => i,
@@ -20,7 +20,7 @@ fn below(log: &[u8], table: &[u32], count: usize, key: &[u8]) -> usize
 // How many keys are below one or the same.
 fn upto(log: &[u8], table: &[u32], count: usize, key: &[u8]) -> usize
     requires { slot_words * count ≤ length table.now }
-    ensures { (result ≡ uptoOf log.now key.now (slots_of count table.now)) × (result ≤ count) }
+    ensures { (result ≡ upto_of log.now key.now (slots_of count table.now)) × (result ≤ count) }
 {
     match find(log, table, count, key) {
         Found::At(i) => i + 1,

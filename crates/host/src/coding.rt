@@ -2,7 +2,7 @@
 // the lent buffer.
 ghost use Rattle.std.specs.Prelude.{◌≡◌, ◌≤◌, length};
 ghost use Rattle.keycode.specs.Buffer.{put};
-ghost use Rattle.keycode.specs.key.Keys.{next_version, txn_active, txn_active_snapshot, txn_write, version as versionKey, unversioned};
+ghost use Rattle.keycode.specs.key.Keys.{next_version, txn_active, txn_active_snapshot, txn_write, version as version_key, unversioned};
 ghost use Rattle.host.specs.Promises.{Encodes, Decodes, Unescapes, field_count, laid_out, split};
 
 use crate::answers::told;
@@ -42,7 +42,7 @@ pub extern "C" fn tjaldrum_encode_txn_write(version: u64, key: &[u8], out: &mut 
 
 #[unsafe(no_mangle)]
 pub extern "C" fn tjaldrum_encode_version(key: &[u8], version: u64, out: &mut [u8]) -> u64
-    ensures { Encodes (versionKey key.now version) out.old result out.new }
+    ensures { Encodes (version_key key.now version) out.old result out.new }
 {
     told(encode_version(key, version, out))
 }

@@ -41,7 +41,7 @@ use Rattle.mvcc.specs.as_of.Promises.{BeginsAsOf}
 use Rattle.mvcc.specs.read.Promises.{resume_answer, Resumes}
 use Rattle.isolation.specs.history.History.{Sight, unborn, status}
 use Rattle.isolation.specs.history.Records.{Map, look, Sorted}
-use Rattle.isolation.specs.history.Calls.{next_of, set_of as snapOf, actives}
+use Rattle.isolation.specs.history.Calls.{next_of, set_of as snap_of, actives}
 use Rattle.isolation.proofs.history.EffectLaws.{in_actives}
 use Rattle.isolation.proofs.history.RunLaws.{run-born, run_unborn, begin_new, run_open, run-sorted}
 use Rattle.isolation.specs.records.Stored.{key_order, sight_of}
@@ -114,7 +114,7 @@ module _ {w : World} {T : Calls} {m : Map} (k : Kept w T m) (a : Ready w) where
       late l (inr n) = n (run_unborn order k.run v l)
 
       go : Dec (v < next_of (look m next_version)) → changed_number r.answer ≡ 0
-      go (yes l) = early w.used (handle_of v true (snapOf (look m (txn_active_snapshot v)))) (leb (next_of (look m next_version)) v) (as_of_at k a v r b) (lt-leb (next_of (look m next_version)) v l)
+      go (yes l) = early w.used (handle_of v true (snap_of (look m (txn_active_snapshot v)))) (leb (next_of (look m next_version)) v) (as_of_at k a v r b) (lt-leb (next_of (look m next_version)) v l)
       go (no l) = absurd (late (omega arith) c)
 
   pub as_of_else : {v : ℕ} {r : Begun} → v ≢ 0 → status (meaning T) v ≡ unborn → BeginsAsOf w.log w.used w.table v r → r ≡ refused_by NoSuchVersion

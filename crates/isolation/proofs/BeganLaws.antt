@@ -39,7 +39,7 @@ use Rattle.mvcc.specs.start.Promises.{Begins}
 use Rattle.mvcc.specs.read_only.Promises.{BeginsReading}
 use Rattle.mvcc.specs.as_of.Promises.{BeginsAsOf}
 use Rattle.isolation.specs.history.Records.{Rec, next_rec, active_rec, snap_rec, wrote_rec, ver_rec, plain_rec, key_of, Map, look, Sorted}
-use Rattle.isolation.specs.history.Calls.{next_of, set_of as snapOf, actives, begin_handle, begin_map}
+use Rattle.isolation.specs.history.Calls.{next_of, set_of as snap_of, actives, begin_handle, begin_map}
 use Rattle.isolation.specs.history.Run.{Entry, begin_e, read_e, as_of_e, other_e, Trace, read_handle, as_of_handle, do_begin, do_read, do_as_of}
 use Rattle.isolation.specs.history.Run as H
 use Rattle.isolation.proofs.history.RunLaws.{run-sorted}
@@ -83,10 +83,10 @@ none-few : Few []
 unfolding rising
 none-few = (omega arith, refl, λ i. omega arith)
 
-snap-fits : {m : Map} → All Fine m → (v : ℕ) → Few (snapOf (look m (txn_active_snapshot v)))
+snap-fits : {m : Map} → All Fine m → (v : ℕ) → Few (snap_of (look m (txn_active_snapshot v)))
 snap-fits {m} a v = go (look m (txn_active_snapshot v)) (look-says a (txn_active_snapshot v))
   where
-    go : (z : Option Rec) → ((r : Rec) → z ≡ some r → (key_of r ≡ txn_active_snapshot v) × Fine r) → Few (snapOf z)
+    go : (z : Option Rec) → ((r : Rec) → z ≡ some r → (key_of r ≡ txn_active_snapshot v) × Fine r) → Few (snap_of z)
     go none w = none-few
     go (some (next_rec n)) w = none-few
     go (some (active_rec v)) w = none-few
@@ -194,12 +194,12 @@ module _ {w : World} {T : Calls} {m : Map} (k : Kept w T m) (a : Ready w) where
 
   -- ---- as-of
 
-  as_of_entry : (v : ℕ) (r : Begun) (u : Used) → r.answer ≡ Done u → r.handle ≡ handle_of v true (snapOf (look m (txn_active_snapshot v)))
-      → length (snapOf (look m (txn_active_snapshot v))) ≤ max_open → on_done r.answer (as_of_e v (sight_of r.handle)) other_e ≡ as_of_e v (as_of_handle v m)
-  as_of_entry v r u e q l = rw e (ap (as_of_e v) (ap sight_of q ∙ sight_made v true (snapOf (look m (txn_active_snapshot v))) l))
+  as_of_entry : (v : ℕ) (r : Begun) (u : Used) → r.answer ≡ Done u → r.handle ≡ handle_of v true (snap_of (look m (txn_active_snapshot v)))
+      → length (snap_of (look m (txn_active_snapshot v))) ≤ max_open → on_done r.answer (as_of_e v (sight_of r.handle)) other_e ≡ as_of_e v (as_of_handle v m)
+  as_of_entry v r u e q l = rw e (ap (as_of_e v) (ap sight_of q ∙ sight_made v true (snap_of (look m (txn_active_snapshot v))) l))
 
   pub as_of_at : (v : ℕ) (r : Begun) → BeginsAsOf w.log w.used w.table v r
-      → r ≡ pick (leb (next_of (look m next_version)) v) (refused_by NoSuchVersion) (as_of_with w.used SetAnswers.Fine (handle_of v true (snapOf (look m (txn_active_snapshot v)))))
+      → r ≡ pick (leb (next_of (look m next_version)) v) (refused_by NoSuchVersion) (as_of_with w.used SetAnswers.Fine (handle_of v true (snap_of (look m (txn_active_snapshot v)))))
   as_of_at v r b =
       b.answer a ∙ rw (k.map, next-pairs sorted k.fine)
       (ap (λ (x : SetRead). pick (leb (next_of (look m next_version)) v) (refused_by NoSuchVersion) (as_of_with w.used x.answer x.handle)) (snapshot_pairs sorted k.fine v))
@@ -213,7 +213,7 @@ module _ {w : World} {T : Calls} {m : Map} (k : Kept w T m) (a : Ready w) where
           kept-other k (rw e) (λ h. given_cases (λ x i g. nope (cc)) (λ x i g. nope (cc)) (λ u x i g. absurd (not_done y (sym (ap changed_number (ap (λ (z : Begun). z.answer) (same_as_of i) ∙ e)) ∙ g.0))) (λ g. g))
       go (Done u) e =
           let z : changed_number r.answer ≡ 0 = ap changed_number e in
-          let S : List ℕ = snapOf (look m (txn_active_snapshot v)) in
+          let S : List ℕ = snap_of (look m (txn_active_snapshot v)) in
           let t : SetRead = record { answer = SetAnswers.Fine; handle = handle_of v true S } in
           let s = as_of_says w.used v (next_of (look m next_version)) t r (as_of_at v r b) refl z in
           let f = snap-fits k.fine v in

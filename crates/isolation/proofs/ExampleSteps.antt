@@ -13,7 +13,7 @@ use Rattle.keycode.specs.Order.{compare_bytes, compare_nat}
 use Rattle.keycode.specs.Strings.{escape, escape_body, escape_byte, scanned}
 use Rattle.keycode.specs.declared.refusal.Refusal.TheVariants.{Absent, Conflict}
 use Rattle.keycode.proofs.Basics.{nope}
-use Rattle.keycode.specs.key.Keys.{decode_why, key_of as readKey, string_at, on_ended, exactly}
+use Rattle.keycode.specs.key.Keys.{decode_why, key_of as read_key, string_at, on_ended, exactly}
 use Rattle.bitcask.specs.entry.Entry.{bytes_of}
 use Rattle.bitcask.specs.entry.Length.{length_of}
 use Rattle.bitcask.specs.entry.Reading.{word_at, head_at, entry_at}
@@ -193,7 +193,7 @@ pub record Contracts : Type 0 where
 
 pub contracts : Contracts
 unfolding blank vacant log₁ log₂ log₃ log₄ log₅ log₆ table₁ table₂ table₃ table₄ table₅ table₆ put be num compare_bytes compare_nat escape escape_body
-    escape_byte scanned decode_why readKey string_at on_ended exactly bytes_of length_of word_at head_at entry_at table_of words_of key_of value_of insert_at
+    escape_byte scanned decode_why read_key string_at on_ended exactly bytes_of length_of word_at head_at entry_at table_of words_of key_of value_of insert_at
     replace_at remove_at place_in look_in put_in cut_in after items items_of ends step fold recovered view map_of step_in run fit open_answer open_table size_all
     bytes_all after_all append_answer entries_of handle_of set_of sound_handle rising sees memb lowest_of first_or set_bytes set_in versions_of set_for version_in
     value_bytes value_in cuts_of pairs_of begins inside rows_of rows_in keep_rows live_in open_by own_version admit_by next_at next_of active_at active_keys active_in versions_in keys_of

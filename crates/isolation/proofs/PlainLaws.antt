@@ -24,7 +24,7 @@ use Rattle.mvcc.specs.unversioned.Promises.{plain_plan, SetsPlain}
 use Rattle.mvcc.proofs.unversioned.MapLaws.{plain_grow}
 use Rattle.mvcc.specs.end.Plans.{commit_plan, rollback_plan}
 use Rattle.mvcc.specs.end.Promises.{Commits, RollsBack}
-use Rattle.isolation.specs.history.Records.{Map, plain_rec, put as putRecord, Sorted}
+use Rattle.isolation.specs.history.Records.{Map, plain_rec, put as put_record, Sorted}
 use Rattle.isolation.specs.history.Calls.{commit_map, rollback_map}
 use Rattle.isolation.specs.history.Run.{usable, do_plain, do_commit, do_rollback}
 use Rattle.isolation.proofs.history.RunLaws.{run-sorted}
@@ -68,7 +68,7 @@ module _ {w : World} {T : Calls} {m : Map} (k : Kept w T m) (a : Ready w) where
   made_plain {key} {value} (Change.Done u) {log} {t} b =
       let q : u.len ≡ w.used + size_all (plain_plan key value) = (b.leaves.ends u refl).0 in
       let f : leb (length key) max_key ≡ true = short_done (fit (length w.log) w.used (length w.table)) (leb (length key) max_key) 0 refl a.sound b.early.key_long in (
-        putRecord key_order (plain_rec key value) m,
+        put_record key_order (plain_rec key value) m,
         (
           record {
             map = ap (map_of log) q ∙ (plain_grow a b refl).map ∙ ap (after_all (plain_plan key value)) k.map ∙ plain_pairs key value m;

@@ -26,7 +26,7 @@ use Rattle.mvcc.specs.scan.Promises.{ScansPrefix}
 use Rattle.mvcc.specs.world.World.{World, Calls}
 use Rattle.mvcc.specs.world.Runs.{Run}
 use Rattle.tape.specs.format.Layout.{value_room, laid, plainly}
-use Rattle.tape.specs.Answers.{bytes_at, got_bytes, Shown, pair, last, pair_if, end_bytes, shown as shownIn}
+use Rattle.tape.specs.Answers.{bytes_at, got_bytes, Shown, pair, last, pair_if, end_bytes, shown as shown_in}
 use Rattle.tape.specs.Turns as Turns
 use Rattle.tape.proofs.MeantLaws.{means}
 use Rattle.isolation.specs.history.History.{Key, Bytes}
@@ -52,7 +52,7 @@ pub value-shown : (log : List ℕ) (a : Located) (o : Option Bytes) → Shows lo
 value-shown log a none e = ap (got_bytes log) e
 value-shown log a (some v) (p, e, q) = ap (got_bytes log) e ∙ ap (λ (x : Bytes). value_shown (some x)) q
 
-shown_end : (log : List ℕ) (room n : ℕ) (s : Stepped) → stepped_number s ≡ 1 → shownIn log room n s ≡ last (laid 0 7 n [] [])
+shown_end : (log : List ℕ) (room n : ℕ) (s : Stepped) → stepped_number s ≡ 1 → shown_in log room n s ≡ last (laid 0 7 n [] [])
 unfolding end_bytes
 shown_end log room n (Step.Next a b) e = nope (e)
 shown_end log room n (Step.Refused r) e = ap (λ (i : ℕ). last (end_bytes n i)) e
@@ -62,8 +62,8 @@ unfolding plain_length
 plain_body k l = rw ((unescaped_body k).0, (unescaped_body k).1, le-leb (length k) max_key l)
 
 shown-pair : (log : List ℕ) (room n : ℕ) (k v : Bytes) (a b : Part) {s : Stepped} → s ≡ Step.Next a b → bytes_at log a ≡ escape_body k → bytes_at log b ≡ v → length k ≤ max_key
-    → shownIn log room n s ≡ pair_if (leb (length v) value_room) (ltb (n + 1) room) k v
-shown-pair log room n k v a b e p q l = ap (shownIn log room n) e ∙ rw (p, q, plain_body k l, (unescaped_body k).0)
+    → shown_in log room n s ≡ pair_if (leb (length v) value_room) (ltb (n + 1) room) k v
+shown-pair log room n k v a b e p q l = ap (shown_in log room n) e ∙ rw (p, q, plain_body k l, (unescaped_body k).0)
 
 -- ---- a whole scan
 
@@ -109,24 +109,24 @@ module _ {w : World} {T : Calls} (R : Run true w T) {h : Handle} {f : Key → Op
   fits-behind k l = rw (le-leb (length prefix) max_key short, le-leb (length k) max_key l)
 
   -- the scan's record for a step that shows so much
-  record_last : {given : Bool} {before : Key} {n : ℕ} {r : Stepped} {x : List ℕ} → ShowsFirst f (prefix_past prefix given before) w.log r → shownIn w.log room n r ≡ last x
+  record_last : {given : Bool} {before : Key} {n : ℕ} {r : Stepped} {x : List ℕ} → ShowsFirst f (prefix_past prefix given before) w.log r → shown_in w.log room n r ≡ last x
       → Lists f prefix room given before n x
   record_last {n = n} {r = r} {x = x} (ends e a) q = all (none-shows refl a) (same-last (sym q ∙ shown_end w.log room n r e))
   record_last {given} {before} {n = n} {r = r} {x = x} (gives k v i j e p c t d l) q = go (pair_fits room n k v)
     where
-      is : shownIn w.log room n r ≡ pair_if (leb (length v) value_room) (ltb (n + 1) room) k v
+      is : shown_in w.log room n r ≡ pair_if (leb (length v) value_room) (ltb (n + 1) room) k v
       is = shown-pair w.log room n k v i j e p c (short-key k d)
 
       go : Fits room n k v (pair_if (leb (length v) value_room) (ltb (n + 1) room) k v) → Lists f prefix room given before n x
       go (fits g y z) = pair-last (sym z ∙ sym is ∙ q)
       go (fails g z) = full k v (first-shows k v refl t d l) g (same-last (sym q ∙ is ∙ z))
 
-  record_pair : {given : Bool} {before : Key} {n : ℕ} {r : Stepped} {key value y : List ℕ} → ShowsFirst f (prefix_past prefix given before) w.log r → shownIn w.log room n r ≡ pair key value
+  record_pair : {given : Bool} {before : Key} {n : ℕ} {r : Stepped} {key value y : List ℕ} → ShowsFirst f (prefix_past prefix given before) w.log r → shown_in w.log room n r ≡ pair key value
       → (length key ≤ max_key → Lists f prefix room true key (n + 1) y) → Lists f prefix room given before n (laid 0 7 0 key value ++ y)
   record_pair {n = n} {r = r} (ends e a) q rest = pair-last (sym q ∙ shown_end w.log room n r e)
   record_pair {given} {before} {n = n} {r = r} {key = key} {value = value} {y = y} (gives k v i j e p c t d l) q rest = go (pair_fits room n k v)
     where
-      is : shownIn w.log room n r ≡ pair_if (leb (length v) value_room) (ltb (n + 1) room) k v
+      is : shown_in w.log room n r ≡ pair_if (leb (length v) value_room) (ltb (n + 1) room) k v
       is = shown-pair w.log room n k v i j e p c (short-key k d)
 
       go : Fits room n k v (pair_if (leb (length v) value_room) (ltb (n + 1) room) k v) → Lists f prefix room given before n (laid 0 7 0 key value ++ y)

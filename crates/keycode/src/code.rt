@@ -1,7 +1,7 @@
 // Encoded keys by value, so that a call can hold several at once. A caller tests a user key's length, number 4, before it makes one.
 ghost use Rattle.std.specs.Prelude.{◌≡◌, ◌≤◌, length};
 ghost use Rattle.keycode.specs.Limits.{max_key};
-ghost use Rattle.keycode.specs.key.Keys.{encode, next_version, txn_active, txn_active_snapshot, txn_write, version as versionKey, unversioned};
+ghost use Rattle.keycode.specs.key.Keys.{encode, next_version, txn_active, txn_active_snapshot, txn_write, version as version_key, unversioned};
 ghost use Rattle.keycode.specs.Prefix.{searched};
 ghost use Rattle.keycode.specs.code.Codes.{Codes, code_of};
 
@@ -64,7 +64,7 @@ pub fn write_code(version: u64, key: &[u8]) -> Code
 
 pub fn version_code(key: &[u8], version: u64) -> Code
     requires { length key.now ≤ max_key }
-    ensures { Codes result (encode (versionKey key.now version)) }
+    ensures { Codes result (encode (version_key key.now version)) }
 {
     let mut bytes = [0u8; KEY_BYTES];
     let answer = encode_version(key, version, &mut bytes);

@@ -3,7 +3,7 @@
 ghost use Rattle.std.specs.Prelude.{◌≡◌, [], ◌∷◌, ◌+◌, ◌≤◌, ◌<◌, length};
 ghost use Rattle.keycode.specs.Number.{be};
 ghost use Rattle.keycode.specs.Strings.{escape_body};
-ghost use Rattle.keycode.specs.key.Keys.{encode, next_version, txn_active, txn_active_snapshot, txn_write, version as versionKey, unversioned};
+ghost use Rattle.keycode.specs.key.Keys.{encode, next_version, txn_active, txn_active_snapshot, txn_write, version as version_key, unversioned};
 ghost use Rattle.keycode.specs.Prefix.{searched};
 ghost use Rattle.keycode.specs.encode.Promises.{Encodes, encode_answer};
 
@@ -77,7 +77,7 @@ pub fn encode_txn_write(version: u64, key: &[u8], out: &mut [u8]) -> Length
 }
 
 pub fn encode_version(key: &[u8], version: u64, out: &mut [u8]) -> Length
-    ensures { Encodes key.now (encode (versionKey key.now version)) out.old result out.new }
+    ensures { Encodes key.now (encode (version_key key.now version)) out.old result out.new }
 {
     match measured(key, 11, out.len()) {
         Length::Done(n) => {

@@ -10,7 +10,7 @@ use lib.Dec.{eqb}
 use lib.ListN.{length, get_or, length-replicate, get_or-replicate, get_or-eq_default}
 use Rattle.keycode.specs.Tests.{pick}
 use Rattle.keycode.specs.Limits.{max_log}
-use Rattle.bitcask.specs.keydir.Slots.{slot_words as tableWords}
+use Rattle.bitcask.specs.keydir.Slots.{slot_words as table_words}
 use Rattle.bitcask.specs.declared.request.Changed.{Changed}
 use Rattle.bitcask.specs.declared.request.Changed.TheVariants.{Done}
 use Rattle.bitcask.specs.recovery.Promises.{Opens}
@@ -43,7 +43,7 @@ empty_slotted T = record { long = length-replicate {A = ℕ} all_words 0; given 
 started : {log t t' : List ℕ} → Opens log 0 t (Done (record { len = 0 })) t' → Run true (world_of log 0 t') (opens (Done (record { len = 0 })) ∷ [])
 started {log} {t} o = first log t o
 
-pub tape_starts : {log t t' : List ℕ} {r : Changed} → Opens log 0 t r t' → length log ≤ max_log → length t % tableWords ≡ 0
+pub tape_starts : {log t t' : List ℕ} {r : Changed} → Opens log 0 t r t' → length log ≤ max_log → length t % table_words ≡ 0
     → Run true (world_of log 0 t') (opens (Done (record { len = 0 })) ∷ []) × Slotted (opens (Done (record { len = 0 })) ∷ []) (zeros all_words)
 tape_starts {log} {t} {t'} o h k = (started (subst (λ (x : Changed). Opens log 0 t x t') (open_empty o h k).0 o), empty_slotted _)
 
@@ -57,7 +57,7 @@ tape_runs {T = T} b run s over = record { calls = T; after = now; run = run; slo
 tape_runs {T = T} b run s (turned {b₁ = c} t ts) = let g = turn_runs b run s t in goes_on g (tape_runs {T = (turn_runs b run s t).calls} c g.run g.slotted ts)
 
 -- from the program's own start
-pub tape_from_start : {room : ℕ} {log spare t t' : List ℕ} {r : Changed} {rs : List (List ℕ)} {b' : Bench} → Opens log 0 t r t' → length log ≤ max_log → length t % tableWords ≡ 0
+pub tape_from_start : {room : ℕ} {log spare t t' : List ℕ} {r : Changed} {rs : List (List ℕ)} {b' : Bench} → Opens log 0 t r t' → length log ≤ max_log → length t % table_words ≡ 0
     → Taped room (record { world = world_of log 0 t'; spare = spare; slots = zeros all_words; other = false }) rs b' → Goes (opens (Done (record { len = 0 })) ∷ []) b'.world b'.slots
 tape_from_start {log = log} {spare = spare} {t' = t'} o h k ts =
     let p = tape_starts o h k in

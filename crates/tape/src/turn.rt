@@ -2,7 +2,7 @@
 ghost use Rattle.std.specs.Prelude.{◌≡◌, true, false, ◌/◌, ◌≤◌, ◌<◌, length};
 ghost use Rattle.tape.specs.format.Layout.{record_len};
 ghost use Rattle.tape.specs.format.Slots.{all_words, slot_fits};
-ghost use Rattle.tape.specs.Turns.{world_of, bench_of, Held, Carried, admitted as admittedBy, Turned};
+ghost use Rattle.tape.specs.Turns.{world_of, bench_of, Held, Carried, admitted as admitted_by, Turned};
 ghost use Rattle.tape.specs.Promises.{Lays, Takes};
 
 use crate::calls::{end, look, start, tell, tidy, write};
@@ -92,7 +92,7 @@ fn slot_fits(command: u8, full: bool) -> bool
 
 fn admitted(bytes: &[u8], slots: &[u64]) -> bool
     requires { (length bytes.now ≡ record_len) × (length slots.now ≡ all_words) }
-    ensures { result ≡ admittedBy bytes.now slots.now }
+    ensures { result ≡ admitted_by bytes.now slots.now }
 {
     let good = proper(bytes);
     if good {
@@ -142,7 +142,7 @@ pub fn take(
     bytes: &[u8],
     out: &mut [u8],
 ) -> Taken
-    ensures { Takes (record { first = first.entry.now; second = second.old; table = table.old; slots = slots.old; out = out.old }) used.len other bytes.now result (record { first = first.exit.now; second = second.new; table = table.new; slots = slots.new; out = out.new }) }
+    ensures { Takes (record { first = first.old; second = second.old; table = table.old; slots = slots.old; out = out.old }) used.len other bytes.now result (record { first = first.new; second = second.new; table = table.new; slots = slots.new; out = out.new }) }
 {
     if out.len() < RECORD {
         return Taken::Refused(Refusal::BadRequest);

@@ -21,7 +21,7 @@ use Rattle.bitcask.proofs.recovery.FoldLaws.{recovered-sorted}
 use Rattle.bitcask.specs.declared.answers.Bound.{Bound}
 use Rattle.bitcask.specs.declared.answers.Bound.TheVariants.{Included, Excluded, Unbounded}
 use Rattle.bitcask.specs.read.Ranks.{before_at, through_at, admits_low}
-use Rattle.bitcask.proofs.read.ScanLaws.{between as betweenNumbers, low_test, high_test}
+use Rattle.bitcask.proofs.read.ScanLaws.{between as between_numbers, low_test, high_test}
 use Rattle.bitcask.specs.declared.engine.mark.Mark.{Mark}
 use Rattle.bitcask.specs.declared.engine.span.Span.{Span}
 use Rattle.bitcask.specs.engine.Rows.{Row, blank, rows_of, rows, pairs, rows_in}
@@ -91,31 +91,31 @@ module _ (log : List ℕ) (ss : List Slot) (s : Sorted log ss) (low : List ℕ) 
 
 -- ---- the rows within two bounds
 
-between_none : (a j : ℕ) → betweenNumbers a 0 j ≡ false
+between_none : (a j : ℕ) → between_numbers a 0 j ≡ false
 between_none a j = rw (le-ltb j 0 (omega arith)) (go (leb a j))
   where
     go : (b : Bool) → pick b false false ≡ false
     go true = refl
     go false = refl
 
-between-suc : (a b j : ℕ) → betweenNumbers (suc a) (suc b) (suc j) ≡ betweenNumbers a b j
+between-suc : (a b j : ℕ) → between_numbers (suc a) (suc b) (suc j) ≡ between_numbers a b j
 between-suc a b j = go (dec_le a j) (dec_lt j b)
   where
-    go : Dec (a ≤ j) → Dec (j < b) → betweenNumbers (suc a) (suc b) (suc j) ≡ betweenNumbers a b j
+    go : Dec (a ≤ j) → Dec (j < b) → between_numbers (suc a) (suc b) (suc j) ≡ between_numbers a b j
     go (yes h) (yes g) = rw (le-leb (suc a) (suc j) (omega arith), lt-ltb (suc j) (suc b) (omega arith), le-leb a j h, lt-ltb j b g)
     go (yes h) (no g) = rw (le-leb (suc a) (suc j) (omega arith), le-ltb (suc j) (suc b) (omega arith), le-leb a j h, le-ltb j b (omega arith))
     go (no h) d = rw (lt-leb (suc a) (suc j) (omega arith), lt-leb a j (omega arith))
 
-between_start : (b j : ℕ) → betweenNumbers 0 (suc b) (suc j) ≡ betweenNumbers 0 b j
+between_start : (b j : ℕ) → between_numbers 0 (suc b) (suc j) ≡ between_numbers 0 b j
 between_start b j = go (dec_lt j b)
   where
-    go : Dec (j < b) → betweenNumbers 0 (suc b) (suc j) ≡ betweenNumbers 0 b j
+    go : Dec (j < b) → between_numbers 0 (suc b) (suc j) ≡ between_numbers 0 b j
     go (yes g) = rw (le-leb 0 (suc j) (omega arith), lt-ltb (suc j) (suc b) (omega arith), le-leb 0 j (omega arith), lt-ltb j b g)
     go (no g) = rw (le-leb 0 (suc j) (omega arith), le-ltb (suc j) (suc b) (omega arith), le-leb 0 j (omega arith), le-ltb j b (omega arith))
 
 module _ (p : List ℕ → Bool) where
   -- a test that admits just the numbers between two keeps the rows between them
-  keep-from : (a b : ℕ) (rs : List Row) → ((j : ℕ) → j < length rs → p (get_or rs j blank).key ≡ betweenNumbers a b j) → keep_rows p rs ≡ rows_from a b rs
+  keep-from : (a b : ℕ) (rs : List Row) → ((j : ℕ) → j < length rs → p (get_or rs j blank).key ≡ between_numbers a b j) → keep_rows p rs ≡ rows_from a b rs
   unfolding keep_rows rows_from
   keep-from zero zero [] q = refl
   keep-from zero (suc b) [] q = refl
@@ -133,7 +133,7 @@ module _ (p : List ℕ → Bool) where
 module _ (lower : Bound) (low : List ℕ) (upper : Bound) (high : List ℕ) where
   module _ (log : List ℕ) (ss : List Slot) (s : Sorted log ss) where
     inside-at : (j : ℕ) → j < length ss
-        → inside lower low upper high (get_or (rows_of log ss) j blank).key ≡ betweenNumbers (from_rank lower low (rows_of log ss)) (upto_rank upper high (rows_of log ss)) j
+        → inside lower low upper high (get_or (rows_of log ss) j blank).key ≡ between_numbers (from_rank lower low (rows_of log ss)) (upto_rank upper high (rows_of log ss)) j
     unfolding inside order_at
     inside-at j h = rw (rows_at log ss j, from-rows log low ss lower, upto-rows log high ss upper, low_test log low ss s j h lower, high_test log high ss s j h upper)
 

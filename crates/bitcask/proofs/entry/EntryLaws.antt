@@ -13,7 +13,7 @@ use Rattle.keycode.specs.Buffer.{put}
 use Rattle.keycode.proofs.NumberLaws.{length-be, num-be}
 use Rattle.keycode.proofs.BufferLaws.{Laying, lay-more, lay-room, set-put, put-put}
 use Rattle.bitcask.specs.entry.Length.{length_of}
-use Rattle.bitcask.specs.entry.Entry.{Entry, set as setEntry, del as delEntry, entry_key, entry_value, entry_bits, bytes_of, size_of}
+use Rattle.bitcask.specs.entry.Entry.{Entry, set as set_entry, del as del_entry, entry_key, entry_value, entry_bits, bytes_of, size_of}
 use Rattle.bitcask.specs.entry.Reading.{word_at, headed, size_read, head_at, entry_at, read_of}
 use Rattle.bitcask.proofs.entry.LengthLaws.{length-small, length-gone}
 use Rattle.bitcask.proofs.entry.ReadingLaws.{entry_whole}
@@ -57,7 +57,7 @@ module _ (d : List ℕ) (at : ℕ) (key : List ℕ) where
   pub set-laid : (head body : List ℕ) {bits o p : ℕ} {d₁ d₂ d₃ : List ℕ} → at + 8 + length key + length head + length body ≤ length d
       → bits ≡ length head + length body → o ≡ at + 8 + length key → p ≡ o + length head
       → d₁ ≡ put d at (be 4 (length key) ++ be 4 bits ++ key) → d₂ ≡ put d₁ o head → d₃ ≡ put d₂ p body
-      → d₃ ≡ put d at (bytes_of (setEntry key (head ++ body)))
+      → d₃ ≡ put d at (bytes_of (set_entry key (head ++ body)))
   unfolding bytes_of
   set-laid head body {bits} h b q r e f g =
       let xs : List ℕ = be 4 (length key) ++ be 4 bits ++ key in
@@ -66,7 +66,7 @@ module _ (d : List ℕ) (at : ℕ) (key : List ℕ) where
       laid_more d at (xs ++ head) body (omega arith) (omega arith) (laid_more d at xs head (omega arith) (omega arith) e f) g
       ∙ rw (b, length-append head body) (simp append_assoc)
 
-  pub del-laid : {d₁ : List ℕ} → d₁ ≡ put d at (be 4 (length key) ++ be 4 (2 ^ 32 - 1) ++ key) → d₁ ≡ put d at (bytes_of (delEntry key))
+  pub del-laid : {d₁ : List ℕ} → d₁ ≡ put d at (be 4 (length key) ++ be 4 (2 ^ 32 - 1) ++ key) → d₁ ≡ put d at (bytes_of (del_entry key))
   unfolding bytes_of
   del-laid e = e ∙ ap (put d at) (sym (append-nil (be 4 (length key) ++ be 4 (2 ^ 32 - 1) ++ key)))
 
@@ -90,16 +90,16 @@ laid_part d at all xs ys zs o n h e q m =
     rw (s, drop_at (take at d ++ xs) (ys ++ (zs ++ rest)) o p, take_at ys (zs ++ rest) n (sym m))
 
 headed-entry : (e : Entry) → size_of e ≤ max_log → headed (length (entry_key e)) (length_of (entry_bits e)) ≡ read_of e
-headed-entry (setEntry k v) h = rw (length-small (length v) (omega arith))
-headed-entry (delEntry k) h = rw length-gone
+headed-entry (set_entry k v) h = rw (length-small (length v) (omega arith))
+headed-entry (del_entry k) h = rw length-gone
 
 bits_fit : (e : Entry) → size_of e ≤ max_log → entry_bits e < 2 ^ 32
-bits_fit (setEntry k v) h = omega arith
-bits_fit (delEntry k) h = omega arith
+bits_fit (set_entry k v) h = omega arith
+bits_fit (del_entry k) h = omega arith
 
 pub size_read_lem : (e : Entry) → size_read (read_of e) ≡ size_of e
-size_read_lem (setEntry k v) = refl
-size_read_lem (delEntry k) = omega arith
+size_read_lem (set_entry k v) = refl
+size_read_lem (del_entry k) = omega arith
 
 module _ (log : List ℕ) (at : ℕ) (e : Entry) (small : size_of e ≤ max_log) (room : at + size_of e ≤ length log) where
   key-word : word_at (put log at (bytes_of e)) at ≡ length (entry_key e)

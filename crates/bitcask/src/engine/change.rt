@@ -2,8 +2,8 @@
 ghost use Rattle.std.specs.Prelude.{◌≡◌, ◌++◌, ◌+◌, ◌-◌, ◌≤◌, length};
 ghost use Rattle.bitcask.specs.keydir.Place.{Among};
 ghost use Rattle.bitcask.specs.engine.Marks.{Held};
-ghost use Rattle.bitcask.specs.entry.Entry.{del as delEntry};
-ghost use Rattle.bitcask.specs.change.Append.{wants as wantsBy, appended};
+ghost use Rattle.bitcask.specs.entry.Entry.{del as del_entry};
+ghost use Rattle.bitcask.specs.change.Append.{wants as wants_by, appended};
 ghost use Rattle.bitcask.specs.engine.Sets.{spot_place, set_at, up_by};
 
 use crate::append::{Mark as End, append_del as append_tomb};
@@ -34,7 +34,7 @@ pub(crate) fn moved(used: Used, len: usize) -> Used
 
 // How many rows a set of a key adds.
 pub fn wants(found: Found) -> usize
-    ensures { result ≡ wantsBy (spot_place found) }
+    ensures { result ≡ wants_by (spot_place found) }
 {
     match found {
         Found::At(_) => 0,
@@ -53,8 +53,8 @@ pub fn append_set(
     body: &[u8],
 ) -> Mark
     requires { (Held log.old table.old mark) × (mark.used.len + 8 + length key.now + length head.now + length body.now ≤ length log.old) × (Among mark.count (spot_place found)) }
-    ensures { record { log = log.exit.now; used = result.used.len; table = table.new; count = result.count }
-        ≡ set_at (record { log = log.entry.now; used = mark.used.len; table = table.old; count = mark.count }) (spot_place found) key.now (head.now ++ body.now) }
+    ensures { record { log = log.new; used = result.used.len; table = table.new; count = result.count }
+        ≡ set_at (record { log = log.old; used = mark.used.len; table = table.old; count = mark.count }) (spot_place found) key.now (head.now ++ body.now) }
 {
     let at = mark.used.len;
     let klen = key.len();
@@ -79,8 +79,8 @@ pub fn append_set(
 // A tombstone of a key, which is found once.
 pub fn append_del(log: &mut [u8], table: &mut [u32], mark: Mark, key: &[u8]) -> Mark
     requires { (Held log.old table.old mark) × (mark.used.len + 8 + length key.now ≤ length log.old) }
-    ensures { record { log = log.exit.now; used = result.used.len; table = table.new; count = result.count }
-        ≡ appended (record { log = log.entry.now; used = mark.used.len; table = table.old; count = mark.count }) (delEntry key.now) }
+    ensures { record { log = log.new; used = result.used.len; table = table.new; count = result.count }
+        ≡ appended (record { log = log.old; used = mark.used.len; table = table.old; count = mark.count }) (del_entry key.now) }
 {
     let before = End {
         used: mark.used.len,

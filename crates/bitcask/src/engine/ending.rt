@@ -26,7 +26,7 @@ fn wide(x: u32) -> usize
 // nothing is laid: that is so on tables alone that were altered by hand.
 fn tomb_at(log: &mut [u8], at: usize, s: Slot) -> usize
     requires { (at ≤ length log.old) × (length log.old ≤ max_log) }
-    ensures { (record { log = log.exit.now; used = result } ≡ tombed (record { log = log.entry.now; used = at }) s) × (result ≤ length log.entry.now) }
+    ensures { (record { log = log.new; used = result } ≡ tombed (record { log = log.old; used = at }) s) × (result ≤ length log.old) }
 {
     let from = wide(s.place) + 7;
     let len = wide(s.klen);
@@ -43,8 +43,8 @@ fn tomb_at(log: &mut [u8], at: usize, s: Slot) -> usize
 // The tombstones of the rows from number `from` on, to `to`; gives the end behind them.
 fn lay_tombs(log: &mut [u8], table: &[u32], mark: Mark, from: usize, to: usize) -> usize
     requires { (Held log.old table.now mark) × (to ≤ mark.count) }
-    ensures { record { log = log.exit.now; used = result }
-        ≡ tombed_all (record { log = log.entry.now; used = mark.used.len }) (span_slots from to (slots_of mark.count table.now)) }
+    ensures { record { log = log.new; used = result }
+        ≡ tombed_all (record { log = log.old; used = mark.used.len }) (span_slots from to (slots_of mark.count table.now)) }
 {
     let mut at = mark.used.len;
     let mut i = from;
@@ -58,8 +58,8 @@ fn lay_tombs(log: &mut [u8], table: &[u32], mark: Mark, from: usize, to: usize) 
 // All rows of a span ended.
 pub fn end_span(log: &mut [u8], table: &mut [u32], mark: Mark, span: Span) -> Mark
     requires { (Held log.old table.old mark) × (rank span.to (rows log.old table.old mark) ≤ length (rows log.old table.old mark)) }
-    ensures { record { log = log.exit.now; used = result.used.len; table = table.new; count = result.count }
-        ≡ ended_span (record { log = log.entry.now; used = mark.used.len; table = table.old; count = mark.count }) (rank span.from (rows log.entry.now table.old mark)) (rank span.to (rows log.entry.now table.old mark)) }
+    ensures { record { log = log.new; used = result.used.len; table = table.new; count = result.count }
+        ≡ ended_span (record { log = log.old; used = mark.used.len; table = table.old; count = mark.count }) (rank span.from (rows log.old table.old mark)) (rank span.to (rows log.old table.old mark)) }
 {
     let from = span.from.number;
     let to = span.to.number;
@@ -77,8 +77,8 @@ pub fn end_span(log: &mut [u8], table: &mut [u32], mark: Mark, span: Span) -> Ma
 // One row ended.
 pub fn end_at(log: &mut [u8], table: &mut [u32], mark: Mark, spot: Spot) -> Mark
     requires { (Held log.old table.old mark) × (rank spot (rows log.old table.old mark) < length (rows log.old table.old mark)) }
-    ensures { record { log = log.exit.now; used = result.used.len; table = table.new; count = result.count }
-        ≡ ended_span (record { log = log.entry.now; used = mark.used.len; table = table.old; count = mark.count }) (rank spot (rows log.entry.now table.old mark)) (rank spot (rows log.entry.now table.old mark) + 1) }
+    ensures { record { log = log.new; used = result.used.len; table = table.new; count = result.count }
+        ≡ ended_span (record { log = log.old; used = mark.used.len; table = table.old; count = mark.count }) (rank spot (rows log.old table.old mark)) (rank spot (rows log.old table.old mark) + 1) }
 {
     let to = Spot {
         number: spot.number + 1,

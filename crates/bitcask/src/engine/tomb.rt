@@ -2,7 +2,7 @@
 ghost use Rattle.std.specs.Prelude.{◌≡◌, ◌+◌, ◌≤◌, length, take, drop};
 ghost use Rattle.keycode.specs.Limits.{max_log};
 ghost use Rattle.keycode.specs.Buffer.{put};
-ghost use Rattle.bitcask.specs.entry.Entry.{del as delEntry, bytes_of};
+ghost use Rattle.bitcask.specs.entry.Entry.{del as del_entry, bytes_of};
 
 use keycode::number::put_number;
 
@@ -24,7 +24,7 @@ fn copy_up(log: &mut [u8], from: usize, to: usize, len: usize)
 // A tombstone at `at` for the key at `from`.
 pub(crate) fn tomb_of(log: &mut [u8], at: usize, from: usize, len: usize)
     requires { (from + len ≤ at) × (at + 8 + len ≤ length log.old) × (length log.old ≤ max_log) }
-    ensures { log.new ≡ put log.old at (bytes_of (delEntry (take len (drop from log.old)))) }
+    ensures { log.new ≡ put log.old at (bytes_of (del_entry (take len (drop from log.old)))) }
 {
     put_number(len as u64, 4, log, at);
     put_number(GONE, 4, log, at + 4);

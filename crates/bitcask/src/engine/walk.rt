@@ -1,6 +1,6 @@
 // Walks from a place, one row at a time, as far as a bound admits keys: one search finds where to start, and no second one the end.
 ghost use Rattle.std.specs.Prelude.{◌≡◌, ◌≤◌, length};
-ghost use Rattle.bitcask.specs.read.Ranks.{admits_low as admitsLowBy, admits_high as admitsHighBy};
+ghost use Rattle.bitcask.specs.read.Ranks.{admits_low as admits_low_by, admits_high as admits_high_by};
 ghost use Rattle.bitcask.specs.engine.Marks.{Held};
 ghost use Rattle.bitcask.specs.engine.Rows.{rows};
 ghost use Rattle.bitcask.specs.engine.Spots.{rank};
@@ -20,7 +20,7 @@ pub enum Near {
 }
 
 fn admits_low(bound: Bound, o: Order) -> bool
-    ensures { result ≡ admitsLowBy bound o }
+    ensures { result ≡ admits_low_by bound o }
 {
     match bound {
         Bound::Included => match o {
@@ -38,7 +38,7 @@ fn admits_low(bound: Bound, o: Order) -> bool
 }
 
 fn admits_high(bound: Bound, o: Order) -> bool
-    ensures { result ≡ admitsHighBy bound o }
+    ensures { result ≡ admits_high_by bound o }
 {
     match bound {
         Bound::Included => match o {

@@ -3,7 +3,7 @@ ghost use Rattle.std.specs.Prelude.{◌≡◌, ◌++◌, ◌+◌, ◌≤◌, ◌
 ghost use Rattle.keycode.specs.Limits.{max_log};
 ghost use Rattle.keycode.specs.Number.{be};
 ghost use Rattle.keycode.specs.Buffer.{put};
-ghost use Rattle.bitcask.specs.entry.Entry.{set as setEntry, del as delEntry, bytes_of, size_of};
+ghost use Rattle.bitcask.specs.entry.Entry.{set as set_entry, del as del_entry, bytes_of, size_of};
 
 use keycode::number::put_number;
 
@@ -38,7 +38,7 @@ fn put_head(log: &mut [u8], at: usize, key: &[u8], bits: u64) -> usize
 // An entry whose value is head and then body; returns the index after it.
 pub(crate) fn put_set(log: &mut [u8], at: usize, key: &[u8], head: &[u8], body: &[u8]) -> usize
     requires { (at + 8 + length key.now + length head.now + length body.now ≤ length log.old) × (length log.old ≤ max_log) }
-    ensures { (result ≡ at + size_of (setEntry key.now (head.now ++ body.now))) × (log.new ≡ put log.old at (bytes_of (setEntry key.now (head.now ++ body.now)))) }
+    ensures { (result ≡ at + size_of (set_entry key.now (head.now ++ body.now))) × (log.new ≡ put log.old at (bytes_of (set_entry key.now (head.now ++ body.now)))) }
 {
     let vlen = head.len() + body.len();
     let v = put_head(log, at, key, vlen as u64);
@@ -49,7 +49,7 @@ pub(crate) fn put_set(log: &mut [u8], at: usize, key: &[u8], head: &[u8], body: 
 // A tombstone; returns the index after it.
 pub(crate) fn put_del(log: &mut [u8], at: usize, key: &[u8]) -> usize
     requires { (at + 8 + length key.now ≤ length log.old) × (length log.old ≤ max_log) }
-    ensures { (result ≡ at + size_of (delEntry key.now)) × (log.new ≡ put log.old at (bytes_of (delEntry key.now))) }
+    ensures { (result ≡ at + size_of (del_entry key.now)) × (log.new ≡ put log.old at (bytes_of (del_entry key.now))) }
 {
     put_head(log, at, key, GONE)
 }

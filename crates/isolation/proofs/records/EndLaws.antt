@@ -17,7 +17,7 @@ use Rattle.bitcask.specs.keydir.Place.{All, all_none, all_more}
 use Rattle.bitcask.specs.recovery.Map.{Pair, after, pairs_of}
 use Rattle.bitcask.specs.change.Append.{after_all}
 use Rattle.mvcc.specs.declared.handle.Handle.{Handle}
-use Rattle.mvcc.proofs.request.RecordLaws.{written_by as isWrite, write_begins}
+use Rattle.mvcc.proofs.request.RecordLaws.{written_by as is_write, write_begins}
 use Rattle.mvcc.specs.delete_range.Plans.{cuts_of}
 use Rattle.mvcc.specs.undo.Plans.{user_in, undos_of, all_users}
 use Rattle.mvcc.specs.end.Plans.{writes_of, commit_plan, rollback_plan}
@@ -46,7 +46,7 @@ wrotes_of : ℕ → List Key → Map
 wrotes_of v [] = []
 wrotes_of v (k ∷ ks) = wrote_rec v k ∷ wrotes_of v ks
 
-writes-first : (v : ℕ) (r : Rec) (m : Map) → writes_of v (pairs_in (r ∷ m)) ≡ pick (isWrite v (key_of r)) (pair_of r ∷ writes_of v (pairs_in m)) (writes_of v (pairs_in m))
+writes-first : (v : ℕ) (r : Rec) (m : Map) → writes_of v (pairs_in (r ∷ m)) ≡ pick (is_write v (key_of r)) (pair_of r ∷ writes_of v (pairs_in m)) (writes_of v (pairs_in m))
 unfolding writes_of pairs_of pairs_in
 writes-first v r m = rw (write_begins v (key_of r))
 

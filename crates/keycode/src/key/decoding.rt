@@ -2,7 +2,7 @@
 // answers 12, as document 01 has it.
 ghost use Rattle.std.specs.Prelude.{◌≡◌, length};
 ghost use Rattle.keycode.specs.Limits.{max_key};
-ghost use Rattle.keycode.specs.key.Keys.{exactly as exactlyOf, string_at, decode_why, forget};
+ghost use Rattle.keycode.specs.key.Keys.{exactly as exactly_of, string_at, decode_why, forget};
 
 use crate::key::{Decoded, Key, Reading};
 use crate::number::get_number;
@@ -12,7 +12,7 @@ use crate::strings::{Fault, Reason, Scanned, scan};
 
 // The key, if its `len` bytes are the n that it should have.
 fn exactly(n: usize, len: usize, key: Key) -> Reading
-    ensures { result ≡ exactlyOf n len key }
+    ensures { result ≡ exactly_of n len key }
 {
     if len < n {
         return Reading::Faulty(Fault {

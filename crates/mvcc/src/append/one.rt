@@ -1,6 +1,6 @@
 // One set appended, or none: one search, by which it is judged and laid.
 ghost use Rattle.std.specs.Prelude.{◌≡◌, [], ◌∷◌};
-ghost use Rattle.bitcask.specs.entry.Entry.{set as setEntry};
+ghost use Rattle.bitcask.specs.entry.Entry.{set as set_entry};
 ghost use Rattle.bitcask.specs.engine.Marks.{mark_of, Held};
 ghost use Rattle.mvcc.specs.append.Appends.{Appends};
 
@@ -19,7 +19,7 @@ pub(crate) fn append_one(
     value: &[u8],
 ) -> Changed
     requires { (Held log.old table.old mark) × (mark ≡ mark_of mark.used table.old) }
-    ensures { Appends log.old table.old mark (setEntry key.now value.now ∷ []) result log.new table.new }
+    ensures { Appends log.old table.old mark (set_entry key.now value.now ∷ []) result log.new table.new }
 {
     let found = find(log, table, mark, key);
     let room = room_in(log, table, mark);

@@ -3,7 +3,7 @@ ghost use Rattle.std.specs.Prelude.{◌≡◌, [], ◌∷◌, ◌++◌, ◌≤�
 ghost use Rattle.keycode.specs.Limits.{max_value};
 ghost use Rattle.keycode.specs.Order.{compare_bytes};
 ghost use Rattle.keycode.specs.declared.order.Order.TheVariants.{Less};
-ghost use Rattle.bitcask.specs.entry.Entry.{set as setEntry};
+ghost use Rattle.bitcask.specs.entry.Entry.{set as set_entry};
 ghost use Rattle.bitcask.specs.engine.Marks.{mark_of, Held};
 ghost use Rattle.mvcc.specs.append.Appends.{Appends};
 
@@ -28,7 +28,7 @@ pub(crate) fn append_pair(
     requires { (Held log.old table.old mark) × (mark ≡ mark_of mark.used table.old) × (compare_bytes first.now second.now ≡ Less)
         × (length head.now ≤ 1) × (length body.now ≤ max_value) }
     ensures { Appends log.old table.old mark
-        (setEntry first.now value.now ∷ setEntry second.now (head.now ++ body.now) ∷ []) result log.new table.new }
+        (set_entry first.now value.now ∷ set_entry second.now (head.now ++ body.now) ∷ []) result log.new table.new }
 {
     let a = find(log, table, mark, first);
     let b = find(log, table, mark, second);

@@ -2,7 +2,7 @@
 ghost use Rattle.std.specs.Prelude.{◌≡◌, [], ◌∷◌};
 ghost use Rattle.keycode.specs.Order.{compare_bytes};
 ghost use Rattle.keycode.specs.declared.order.Order.TheVariants.{Less};
-ghost use Rattle.bitcask.specs.entry.Entry.{set as setEntry};
+ghost use Rattle.bitcask.specs.entry.Entry.{set as set_entry};
 ghost use Rattle.bitcask.specs.engine.Marks.{mark_of, Held};
 ghost use Rattle.mvcc.specs.append.Appends.{Appends};
 
@@ -26,7 +26,7 @@ pub(crate) fn append_three(
 ) -> Changed
     requires { (Held log.old table.old mark) × (mark ≡ mark_of mark.used table.old) × (compare_bytes first.now third.now ≡ Less) × (compare_bytes third.now second.now ≡ Less) }
     ensures { Appends log.old table.old mark
-        (setEntry first.now value.now ∷ setEntry second.now payload.now ∷ setEntry third.now [] ∷ []) result log.new table.new }
+        (set_entry first.now value.now ∷ set_entry second.now payload.now ∷ set_entry third.now [] ∷ []) result log.new table.new }
 {
     let a = find(log, table, mark, first);
     let b = find(log, table, mark, second);

@@ -1,7 +1,7 @@
 // A record as a request.
 ghost use Rattle.std.specs.Prelude.{◌≡◌, ◌≤◌, length};
 ghost use Rattle.tape.specs.format.Layout.{record_len, key_room, value_room};
-ghost use Rattle.tape.specs.format.Requests.{fields_of, between as betweenBy, slot_most, key_most, value_most, version_most, modest as modestBy, all_zero, cleared as clearedBy, proper as properBy};
+ghost use Rattle.tape.specs.format.Requests.{fields_of, between as between_by, slot_most, key_most, value_most, version_most, modest as modest_by, all_zero, cleared as cleared_by, proper as proper_by};
 
 use crate::format::layout::{KEY_AT, KEY_ROOM, VALUE_AT, VALUE_ROOM};
 use keycode::number::get_number;
@@ -36,7 +36,7 @@ pub(crate) fn fields(bytes: &[u8]) -> Request
 }
 
 fn between(low: u8, high: u8, command: u8) -> bool
-    ensures { result ≡ betweenBy low high command }
+    ensures { result ≡ between_by low high command }
 {
     if command < low {
         return false;
@@ -73,7 +73,7 @@ fn version_most(command: u8) -> u64
 }
 
 fn modest(q: Request) -> bool
-    ensures { result ≡ modestBy q }
+    ensures { result ≡ modest_by q }
 {
     let c = q.command;
     if !between(1, 11, c) {
@@ -107,7 +107,7 @@ fn all_zero(s: &[u8]) -> bool
 // The bytes behind the key and behind the value.
 fn cleared(bytes: &[u8], klen: usize, vlen: usize) -> bool
     requires { (length bytes.now ≡ record_len) × (klen ≤ key_room) × (vlen ≤ value_room) }
-    ensures { result ≡ clearedBy bytes.now klen vlen }
+    ensures { result ≡ cleared_by bytes.now klen vlen }
 {
     all_zero(&bytes[KEY_AT + klen..VALUE_AT]) && all_zero(&bytes[VALUE_AT + vlen..])
 }
@@ -115,7 +115,7 @@ fn cleared(bytes: &[u8], klen: usize, vlen: usize) -> bool
 // Whether it stands as document 01 lays it out.
 pub(crate) fn proper(bytes: &[u8]) -> bool
     requires { length bytes.now ≡ record_len }
-    ensures { result ≡ properBy bytes.now }
+    ensures { result ≡ proper_by bytes.now }
 {
     let q = fields(bytes);
     modest(q) && cleared(bytes, q.klen, q.vlen)

@@ -1,7 +1,7 @@
 // The handle slots of a tape, in lent words.
 ghost use Rattle.std.specs.Prelude.{◌≡◌, ◌+◌, ◌≤◌, ◌<◌, length};
 ghost use Rattle.keycode.specs.Buffer.{put};
-ghost use Rattle.tape.specs.format.Slots.{all_words, filled as filledBy, handle_at, kind_of, fill as fillBy, empty as emptyBy};
+ghost use Rattle.tape.specs.format.Slots.{all_words, filled as filled_by, handle_at, kind_of, fill as fill_by, empty as empty_by};
 
 use keycode::limits::MAX_OPEN;
 use mvcc::Handle;
@@ -13,7 +13,7 @@ pub(crate) const ALL_WORDS: usize = 304;
 
 pub(crate) fn filled(slots: &[u64], i: usize) -> bool
     requires { (length slots.now ≡ all_words) × (i < 16) }
-    ensures { result ≡ filledBy slots.now i }
+    ensures { result ≡ filled_by slots.now i }
 {
     slots[SLOT_WORDS * i] != 0
 }
@@ -54,7 +54,7 @@ fn kind_of(read_only: bool) -> u64
 
 pub(crate) fn fill(slots: &mut [u64], i: usize, handle: Handle)
     requires { (length slots.old ≡ all_words) × (i < 16) }
-    ensures { slots.new ≡ fillBy slots.old i handle }
+    ensures { slots.new ≡ fill_by slots.old i handle }
 {
     let at = SLOT_WORDS * i;
     let set = handle.set;
@@ -66,7 +66,7 @@ pub(crate) fn fill(slots: &mut [u64], i: usize, handle: Handle)
 
 pub(crate) fn empty(slots: &mut [u64], i: usize)
     requires { (length slots.old ≡ all_words) × (i < 16) }
-    ensures { slots.new ≡ emptyBy slots.old i }
+    ensures { slots.new ≡ empty_by slots.old i }
 {
     let none = [0u64; SLOT_WORDS];
     copy_words(&none[..SLOT_WORDS], slots, SLOT_WORDS * i);

@@ -1,6 +1,6 @@
 -- `append_set` finds the key's place, lays the entry and puts its slot in.
 use mathlib.Core.List.{◌++◌}
-use Rattle.bitcask.specs.entry.Entry.{set as setEntry}
+use Rattle.bitcask.specs.entry.Entry.{set as set_entry}
 use Rattle.bitcask.proofs.change.AppendLaws.{found_among, appended-is, set_becomes}
 use Rattle.bitcask.proofs.append.append_set.Goals as goal
 
@@ -22,5 +22,5 @@ shape_of-table c = c.enter-n.auto.table
 pub returns : goal.returns
 returns c =
     let a = c.args in
-    appended-is a.log.now a.table.now a.mark.used a.mark.count (setEntry a.key.now (a.head.now ++ a.body.now)) _ _ _ _ c.put_set-used.ensures.1 c.put_set-used.ensures.0
+    appended-is a.log.now a.table.now a.mark.used a.mark.count (set_entry a.key.now (a.head.now ++ a.body.now)) _ _ _ _ c.put_set-used.ensures.1 c.put_set-used.ensures.0
     (set_becomes a.log.now a.table.now a.mark.used a.mark.count a.key.now a.head.now a.body.now _ _ _ c.find-found.ensures c.enter-n.ensures)
