@@ -131,7 +131,8 @@ pub extern "C" fn tjaldrum_open(log: &[u8], used: usize, table: &mut [u8]) -> u6
     ensures { Opens log.now used table.old result table.new }
 {
     clear(table);
-    if table.len() % WORD_BYTES != 0 {
+    let ragged = table.len() % WORD_BYTES != 0;
+    if ragged {
         return told(Length::Refused(Refusal::BadRequest));
     }
     if !fits(log.len(), used, table.len() / WORD_BYTES) {

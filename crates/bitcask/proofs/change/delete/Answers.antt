@@ -1,20 +1,18 @@
 -- `delete`: 13, the judgement, and then one tombstone.
 use mathlib.Core.Path.{refl, sym, ◌∙◌}
 use lib.ListN.{length}
-use borrow.Author.Tests.{not-true, not-false}
 use Rattle.bitcask.specs.entry.Entry.{del as del_entry}
 use Rattle.bitcask.proofs.keydir.CountLaws.{count-within}
 use Rattle.bitcask.proofs.recovery.AgreeLaws.{fit-sound}
 use Rattle.bitcask.proofs.change.ChangeLaws.{change_bad, change_refused, change_room, change_done, judged_by_lem, count_fits}
 use native.Mathlib.Omega.{arith}
-use Rattle.std.proofs.lemmas.Bool.{not_from_true, not_from_false}
 use Rattle.bitcask.proofs.change.delete.Goals as goal
 
 pub returns-then-not-good : goal.returns-then-not-good
-returns-then-not-good c = let a = c.args in change_bad a.log.now a.used.len a.table.now (del_entry a.key.now) (sym c.fits-good.ensures ∙ not-true _ (not_from_false _ c.if-not-good.true))
+returns-then-not-good c = let a = c.args in change_bad a.log.now a.used.len a.table.now (del_entry a.key.now) (sym c.fits-good.ensures ∙ c.if-not-good.true)
 
 pub overflow_sub-log : goal.overflow_sub-log
-overflow_sub-log c = let a = c.args in (fit-sound (length a.log.now) a.used.len (length a.table.now) (sym c.fits-good.ensures ∙ not-false _ (not_from_true _ c.if-not-good.false))).within
+overflow_sub-log c = let a = c.args in (fit-sound (length a.log.now) a.used.len (length a.table.now) (sym c.fits-good.ensures ∙ c.if-not-good.false)).within
 
 pub overflow_sub-table : goal.overflow_sub-table
 overflow_sub-table c = count_fits c.args.table.now _ c.count-n.ensures
@@ -22,14 +20,14 @@ overflow_sub-table c = count_fits c.args.table.now _ c.count-n.ensures
 pub append_del-mark-requires : goal.append_del-mark-requires
 append_del-mark-requires c =
     let a = c.args in
-    let w = change_room a.log.now a.used.len a.table.now (del_entry a.key.now) (sym c.fits-good.ensures ∙ not-false _ (not_from_true _ c.if-not-good.false)) _
+    let w = change_room a.log.now a.used.len a.table.now (del_entry a.key.now) (sym c.fits-good.ensures ∙ c.if-not-good.false) _
     (judged_by_lem a.log.now a.used.len a.table.now (del_entry a.key.now) _ 0 _ _ c.count-n.ensures c.room_after-room.ensures refl c.judged.ensures) c.in-Fine.is in
     (omega (arith, w.0), w.1, omega (arith, count-within a.table.now, c.count-n.ensures))
 
 pub returns-in-Refused : goal.returns-in-Refused
 returns-in-Refused c =
     let a = c.args in
-    change_refused a.log.now a.used.len a.table.now (del_entry a.key.now) (sym c.fits-good.ensures ∙ not-false _ (not_from_true _ c.if-not-good.false)) _
+    change_refused a.log.now a.used.len a.table.now (del_entry a.key.now) (sym c.fits-good.ensures ∙ c.if-not-good.false) _
     (judged_by_lem a.log.now a.used.len a.table.now (del_entry a.key.now) _ 0 _ _ c.count-n.ensures c.room_after-room.ensures refl c.judged.ensures) _ c.in-Refused.is
 
 pub shape_of-log : goal.shape_of-log
@@ -41,6 +39,6 @@ shape_of-table-in-Fine c = c.append_del-mark.auto.table
 pub returns-in-Fine : goal.returns-in-Fine
 returns-in-Fine c =
     let a = c.args in
-    change_done a.log.now a.used.len a.table.now (del_entry a.key.now) (sym c.fits-good.ensures ∙ not-false _ (not_from_true _ c.if-not-good.false)) _
+    change_done a.log.now a.used.len a.table.now (del_entry a.key.now) (sym c.fits-good.ensures ∙ c.if-not-good.false) _
     (judged_by_lem a.log.now a.used.len a.table.now (del_entry a.key.now) _ 0 _ _ c.count-n.ensures c.room_after-room.ensures refl c.judged.ensures) c.in-Fine.is
     _ _ _ c.count-n.ensures refl c.append_del-mark.ensures

@@ -2,20 +2,18 @@
 use mathlib.Core.Path.{sym, ap, ◌∙◌}
 use mathlib.Core.List.{append-nil}
 use lib.ListN.{length}
-use borrow.Author.Tests.{not-true, not-false}
 use Rattle.bitcask.specs.entry.Entry.{set as set_entry}
 use Rattle.bitcask.proofs.keydir.CountLaws.{count-within}
 use Rattle.bitcask.proofs.recovery.AgreeLaws.{fit-sound}
 use Rattle.bitcask.proofs.change.ChangeLaws.{change_bad, change_refused, change_room, change_done, judged_by_lem, fresh_by, count_fits}
 use native.Mathlib.Omega.{arith}
-use Rattle.std.proofs.lemmas.Bool.{not_from_true, not_from_false}
 use Rattle.bitcask.proofs.change.set.Goals as goal
 
 pub returns-then-not-good : goal.returns-then-not-good
-returns-then-not-good c = let a = c.args in change_bad a.log.now a.used.len a.table.now (set_entry a.key.now a.value.now) (sym c.fits-good.ensures ∙ not-true _ (not_from_false _ c.if-not-good.true))
+returns-then-not-good c = let a = c.args in change_bad a.log.now a.used.len a.table.now (set_entry a.key.now a.value.now) (sym c.fits-good.ensures ∙ c.if-not-good.true)
 
 pub overflow_sub-log : goal.overflow_sub-log
-overflow_sub-log c = let a = c.args in (fit-sound (length a.log.now) a.used.len (length a.table.now) (sym c.fits-good.ensures ∙ not-false _ (not_from_true _ c.if-not-good.false))).within
+overflow_sub-log c = let a = c.args in (fit-sound (length a.log.now) a.used.len (length a.table.now) (sym c.fits-good.ensures ∙ c.if-not-good.false)).within
 
 pub fresh-requires : goal.fresh-requires
 fresh-requires c = omega (arith, count-within c.args.table.now, c.count-n.ensures)
@@ -26,7 +24,7 @@ overflow_sub-table c = count_fits c.args.table.now _ c.count-n.ensures
 pub append_set-mark-requires : goal.append_set-mark-requires
 append_set-mark-requires c =
     let a = c.args in
-    let w = change_room a.log.now a.used.len a.table.now (set_entry a.key.now a.value.now) (sym c.fits-good.ensures ∙ not-false _ (not_from_true _ c.if-not-good.false)) _
+    let w = change_room a.log.now a.used.len a.table.now (set_entry a.key.now a.value.now) (sym c.fits-good.ensures ∙ c.if-not-good.false) _
     (judged_by_lem a.log.now a.used.len a.table.now (set_entry a.key.now a.value.now) _ _ _ _ c.count-n.ensures c.room_after-room.ensures
     (fresh_by a.log.now a.table.now a.key.now _ _ c.count-n.ensures c.fresh.ensures) c.judged.ensures) c.in-Fine.is in
     (omega (arith, w.0), w.1, omega (arith, count-within a.table.now, c.count-n.ensures))
@@ -34,7 +32,7 @@ append_set-mark-requires c =
 pub returns-in-Refused : goal.returns-in-Refused
 returns-in-Refused c =
     let a = c.args in
-    change_refused a.log.now a.used.len a.table.now (set_entry a.key.now a.value.now) (sym c.fits-good.ensures ∙ not-false _ (not_from_true _ c.if-not-good.false)) _
+    change_refused a.log.now a.used.len a.table.now (set_entry a.key.now a.value.now) (sym c.fits-good.ensures ∙ c.if-not-good.false) _
     (judged_by_lem a.log.now a.used.len a.table.now (set_entry a.key.now a.value.now) _ _ _ _ c.count-n.ensures c.room_after-room.ensures
     (fresh_by a.log.now a.table.now a.key.now _ _ c.count-n.ensures c.fresh.ensures) c.judged.ensures) _ c.in-Refused.is
 
@@ -47,7 +45,7 @@ shape_of-table-in-Fine c = c.append_set-mark.auto.table
 pub returns-in-Fine : goal.returns-in-Fine
 returns-in-Fine c =
     let a = c.args in
-    change_done a.log.now a.used.len a.table.now (set_entry a.key.now a.value.now) (sym c.fits-good.ensures ∙ not-false _ (not_from_true _ c.if-not-good.false)) _
+    change_done a.log.now a.used.len a.table.now (set_entry a.key.now a.value.now) (sym c.fits-good.ensures ∙ c.if-not-good.false) _
     (judged_by_lem a.log.now a.used.len a.table.now (set_entry a.key.now a.value.now) _ _ _ _ c.count-n.ensures c.room_after-room.ensures
     (fresh_by a.log.now a.table.now a.key.now _ _ c.count-n.ensures c.fresh.ensures) c.judged.ensures) c.in-Fine.is
     _ _ _ c.count-n.ensures (ap (set_entry a.key.now) (append-nil a.value.now)) c.append_set-mark.ensures

@@ -1,25 +1,23 @@
 -- `compact` tests the sizes, then the room, and then moves the entries.
 use mathlib.Core.Path.{sym, ◌∙◌}
-use borrow.Author.Tests.{not-true, not-false}
 use Rattle.bitcask.proofs.keydir.CountLaws.{count-within}
 use Rattle.bitcask.proofs.compaction.CompactLaws.{compact_unfit, compact_large, compact_full, compact_room, compact_done}
-use Rattle.std.proofs.lemmas.Bool.{not_from_true, not_from_false}
 use Rattle.bitcask.proofs.compaction.compact.Goals as goal
 
 pub returns-then-not-fits : goal.returns-then-not-fits
-returns-then-not-fits c = let a = c.args in compact_unfit a.log.now a.used.len a.table.now a.target.now (sym c.fits.ensures ∙ not-true _ (not_from_false _ c.if-not-fits.true))
+returns-then-not-fits c = let a = c.args in compact_unfit a.log.now a.used.len a.table.now a.target.now (sym c.fits.ensures ∙ c.if-not-fits.true)
 
 pub returns-then-room-gt-MAX_LOG : goal.returns-then-room-gt-MAX_LOG
-returns-then-room-gt-MAX_LOG c = let a = c.args in compact_large a.log.now a.used.len a.table.now a.target.now (sym c.fits.ensures ∙ not-false _ (not_from_true _ c.if-not-fits.false)) c.if-room-gt-MAX_LOG.true
+returns-then-room-gt-MAX_LOG c = let a = c.args in compact_large a.log.now a.used.len a.table.now a.target.now (sym c.fits.ensures ∙ c.if-not-fits.false) c.if-room-gt-MAX_LOG.true
 
 pub live_upto-requires : goal.live_upto-requires
 live_upto-requires c = rw c.count-n.ensures (count-within c.args.table.now)
 
 pub move_all-len-requires : goal.move_all-len-requires
-move_all-len-requires c = let a = c.args in (rw c.count-n.ensures (count-within a.table.now), compact_room a.log.now a.used.len a.table.now a.target.now (sym c.fits.ensures ∙ not-false _ (not_from_true _ c.if-not-fits.false)) c.if-room-gt-MAX_LOG.false c.count-n.ensures c.live_upto.ensures _ c.in-Total.is, c.if-room-gt-MAX_LOG.false)
+move_all-len-requires c = let a = c.args in (rw c.count-n.ensures (count-within a.table.now), compact_room a.log.now a.used.len a.table.now a.target.now (sym c.fits.ensures ∙ c.if-not-fits.false) c.if-room-gt-MAX_LOG.false c.count-n.ensures c.live_upto.ensures _ c.in-Total.is, c.if-room-gt-MAX_LOG.false)
 
 pub returns-in-Over : goal.returns-in-Over
-returns-in-Over c = let a = c.args in compact_full a.log.now a.used.len a.table.now a.target.now (sym c.fits.ensures ∙ not-false _ (not_from_true _ c.if-not-fits.false)) c.if-room-gt-MAX_LOG.false c.count-n.ensures c.live_upto.ensures c.in-Over.is
+returns-in-Over c = let a = c.args in compact_full a.log.now a.used.len a.table.now a.target.now (sym c.fits.ensures ∙ c.if-not-fits.false) c.if-room-gt-MAX_LOG.false c.count-n.ensures c.live_upto.ensures c.in-Over.is
 
 pub returns-in-Total : goal.returns-in-Total
-returns-in-Total c = let a = c.args in compact_done a.log.now a.used.len a.table.now a.target.now (sym c.fits.ensures ∙ not-false _ (not_from_true _ c.if-not-fits.false)) c.if-room-gt-MAX_LOG.false c.count-n.ensures c.live_upto.ensures _ c.in-Total.is (rw c.count-n.ensures (count-within a.table.now)) c.move_all-len.ensures
+returns-in-Total c = let a = c.args in compact_done a.log.now a.used.len a.table.now a.target.now (sym c.fits.ensures ∙ c.if-not-fits.false) c.if-room-gt-MAX_LOG.false c.count-n.ensures c.live_upto.ensures _ c.in-Total.is (rw c.count-n.ensures (count-within a.table.now)) c.move_all-len.ensures

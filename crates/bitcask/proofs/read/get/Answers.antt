@@ -1,15 +1,13 @@
 -- `get`: 13, one look-up, and the place of the value.
 use mathlib.Core.Path.{sym, ◌∙◌}
-use borrow.Author.Tests.{not-true, not-false}
 use Rattle.bitcask.proofs.keydir.CountLaws.{count-within}
 use Rattle.bitcask.proofs.read.RankLaws.{found_at}
 use Rattle.bitcask.proofs.read.ReadLaws.{get_bad, get_absent, get_at}
 use native.Mathlib.Omega.{arith}
-use Rattle.std.proofs.lemmas.Bool.{not_from_true, not_from_false}
 use Rattle.bitcask.proofs.read.get.Goals as goal
 
 pub returns-then-not-good : goal.returns-then-not-good
-returns-then-not-good c = let a = c.args in get_bad a.log.now a.used.len a.table.now a.key.now (sym c.fits-good.ensures ∙ not-true _ (not_from_false _ c.if-not-good.true))
+returns-then-not-good c = let a = c.args in get_bad a.log.now a.used.len a.table.now a.key.now (sym c.fits-good.ensures ∙ c.if-not-good.true)
 
 pub find-requires : goal.find-requires
 find-requires c = omega (arith, count-within c.args.table.now, c.count-n.ensures)
@@ -18,7 +16,7 @@ pub slot_at-requires : goal.slot_at-requires
 slot_at-requires c = let a = c.args in omega (arith, count-within a.table.now, c.count-n.ensures, found_at a.log.now a.key.now a.table.now c.count-n.result _ c.find.ensures c.in-At.i c.in-At.is)
 
 pub returns-in-At : goal.returns-in-At
-returns-in-At c = let a = c.args in get_at a.log.now a.used.len a.table.now a.key.now (sym c.fits-good.ensures ∙ not-false _ (not_from_true _ c.if-not-good.false)) _ c.count-n.ensures _ c.find.ensures _ _ _ c.in-At.is c.slot_at.ensures c.value_part.ensures
+returns-in-At c = let a = c.args in get_at a.log.now a.used.len a.table.now a.key.now (sym c.fits-good.ensures ∙ c.if-not-good.false) _ c.count-n.ensures _ c.find.ensures _ _ _ c.in-At.is c.slot_at.ensures c.value_part.ensures
 
 pub returns-in-Before : goal.returns-in-Before
-returns-in-Before c = let a = c.args in get_absent a.log.now a.used.len a.table.now a.key.now (sym c.fits-good.ensures ∙ not-false _ (not_from_true _ c.if-not-good.false)) _ c.count-n.ensures _ c.find.ensures _ c.in-Before.is
+returns-in-Before c = let a = c.args in get_absent a.log.now a.used.len a.table.now a.key.now (sym c.fits-good.ensures ∙ c.if-not-good.false) _ c.count-n.ensures _ c.find.ensures _ c.in-Before.is

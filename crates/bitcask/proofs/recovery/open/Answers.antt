@@ -1,19 +1,17 @@
 -- `recovery::opening::open` meets its contract. Assumes nothing.
-use borrow.Author.Tests.{not-true, not-false}
 use Rattle.bitcask.proofs.recovery.WalkLaws.{open_bad, open_sound, open_clear, open_walked}
 use native.Mathlib.Omega.{arith}
-use Rattle.std.proofs.lemmas.Bool.{not_from_true, not_from_false}
 use Rattle.bitcask.proofs.recovery.open.Goals as goal
 
 pub returns-then-not-fits : goal.returns-then-not-fits
-returns-then-not-fits c = let a = c.args in open_bad a.log.now a.used.len a.table.now c.clear.ensures c.clear.auto.table c.fits.ensures (not-true _ (not_from_false _ c.if-not-fits.true))
+returns-then-not-fits c = let a = c.args in open_bad a.log.now a.used.len a.table.now c.clear.ensures c.clear.auto.table c.fits.ensures c.if-not-fits.true
 
 pub walk-requires : goal.walk-requires
 walk-requires c =
     let a = c.args in
-    let q = not-false _ (not_from_true _ c.if-not-fits.false) in
+    let q = c.if-not-fits.false in
     let s = open_sound a.log.now a.used.len a.table.now c.clear.ensures c.clear.auto.table c.fits.ensures q in
     (omega arith, open_clear a.log.now a.used.len a.table.now c.clear.ensures c.clear.auto.table c.fits.ensures q)
 
 pub returns : goal.returns
-returns c = let a = c.args in open_walked a.log.now a.used.len a.table.now c.clear.ensures c.clear.auto.table c.fits.ensures (not-false _ (not_from_true _ c.if-not-fits.false)) c.walk.ensures
+returns c = let a = c.args in open_walked a.log.now a.used.len a.table.now c.clear.ensures c.clear.auto.table c.fits.ensures c.if-not-fits.false c.walk.ensures

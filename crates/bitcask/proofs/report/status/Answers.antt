@@ -1,26 +1,24 @@
 -- `status` counts the slots in use and sums their entries' bytes, as far as the log has bytes.
 use mathlib.Core.Path.{sym, ◌∙◌}
-use borrow.Author.Tests.{not-true, not-false}
 use Rattle.bitcask.proofs.keydir.CountLaws.{count-within}
 use Rattle.bitcask.proofs.compaction.LiveLaws.{counting-bad, counting-over, counting-room, counting_done}
 use native.Mathlib.Omega.{arith}
-use Rattle.std.proofs.lemmas.Bool.{not_from_true, not_from_false}
 use Rattle.bitcask.proofs.report.status.Goals as goal
 
 pub returns-then-not-fits : goal.returns-then-not-fits
-returns-then-not-fits c = let a = c.args in counting-bad a.log.now a.used.len a.table.now (sym c.fits.ensures ∙ not-true _ (not_from_false _ c.if-not-fits.true))
+returns-then-not-fits c = let a = c.args in counting-bad a.log.now a.used.len a.table.now (sym c.fits.ensures ∙ c.if-not-fits.true)
 
 pub live_upto-requires : goal.live_upto-requires
 live_upto-requires c = rw c.count-keys.ensures (count-within c.args.table.now)
 
 pub overflow_mul-result : goal.overflow_mul-result
-overflow_mul-result c = let a = c.args in let h = counting-room a.log.now a.used.len a.table.now (sym c.fits.ensures ∙ not-false _ (not_from_true _ c.if-not-fits.false)) c.count-keys.ensures c.live_upto.ensures _ c.in-Total.is in omega arith
+overflow_mul-result c = let a = c.args in let h = counting-room a.log.now a.used.len a.table.now (sym c.fits.ensures ∙ c.if-not-fits.false) c.count-keys.ensures c.live_upto.ensures _ c.in-Total.is in omega arith
 
 pub overflow_sub-result : goal.overflow_sub-result
-overflow_sub-result c = let a = c.args in counting-room a.log.now a.used.len a.table.now (sym c.fits.ensures ∙ not-false _ (not_from_true _ c.if-not-fits.false)) c.count-keys.ensures c.live_upto.ensures _ c.in-Total.is
+overflow_sub-result c = let a = c.args in counting-room a.log.now a.used.len a.table.now (sym c.fits.ensures ∙ c.if-not-fits.false) c.count-keys.ensures c.live_upto.ensures _ c.in-Total.is
 
 pub returns-in-Over : goal.returns-in-Over
-returns-in-Over c = let a = c.args in counting-over a.log.now a.used.len a.table.now (sym c.fits.ensures ∙ not-false _ (not_from_true _ c.if-not-fits.false)) c.count-keys.ensures c.live_upto.ensures _ c.in-Over.is
+returns-in-Over c = let a = c.args in counting-over a.log.now a.used.len a.table.now (sym c.fits.ensures ∙ c.if-not-fits.false) c.count-keys.ensures c.live_upto.ensures _ c.in-Over.is
 
 pub returns-in-Total : goal.returns-in-Total
-returns-in-Total c = let a = c.args in counting_done a.log.now a.used.len a.table.now (sym c.fits.ensures ∙ not-false _ (not_from_true _ c.if-not-fits.false)) c.count-keys.ensures c.live_upto.ensures _ c.in-Total.is
+returns-in-Total c = let a = c.args in counting_done a.log.now a.used.len a.table.now (sym c.fits.ensures ∙ c.if-not-fits.false) c.count-keys.ensures c.live_upto.ensures _ c.in-Total.is
