@@ -8,7 +8,7 @@ use keycode::parts::clip;
 use std::io;
 use std::io::Read;
 use tape::format::layout::RECORD;
-use tape::{Taken, take};
+use tape::take;
 
 // The store's used length, which buffer is its log, and whether there is more to read.
 #[derive(Clone, Copy)]
@@ -46,7 +46,7 @@ fn answer<P: Print + Eprint>(
 ) -> Place {
     let used = Used { len: p.used };
     match take(first, second, table, slots, used, p.other, bytes, answers) {
-        Taken::Done(t) => {
+        Ok(t) => {
             let n = Place {
                 used: t.used.len,
                 other: t.other,
@@ -57,7 +57,7 @@ fn answer<P: Print + Eprint>(
                 Err(_) => told(rt, n, "bench: an answer was not written"),
             }
         }
-        Taken::Refused(_) => told(rt, p, "bench: a record was refused"),
+        Err(_) => told(rt, p, "bench: a record was refused"),
     }
 }
 

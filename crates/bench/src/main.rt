@@ -27,7 +27,7 @@ fn main(rt: HostRuntime) {
     let mut slots = [0u64; SLOTS];
     let mut record = [0u8; RECORD];
     let mut answers = [0u8; ANSWERS];
-    open(&first, Used { len: 0 }, &mut table);
+    let _ = open(&first, Used { len: 0 }, &mut table);
     run(
         &mut rt.stdin(),
         &rt,

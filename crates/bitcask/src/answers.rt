@@ -1,13 +1,6 @@
 // What the engine calls answer.
 use keycode::{Part, Refusal};
 
-// The place of a value in the log.
-#[derive(Clone, Copy)]
-pub enum Located {
-    At(Part),
-    Refused(Refusal),
-}
-
 // One end of a scan.
 #[derive(Clone, Copy)]
 pub enum Bound {
@@ -18,7 +11,7 @@ pub enum Bound {
 
 // The places of a key and its value in the log.
 #[derive(Clone, Copy)]
-pub enum Stepped {
-    Next { key: Part, value: Part },
-    Refused(Refusal),
+pub struct KeyValue {
+    pub key: Part,
+    pub value: Part,
 }

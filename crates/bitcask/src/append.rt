@@ -7,7 +7,7 @@ ghost use Rattle.bitcask.specs.keydir.Slots.{slot_words, slots_of};
 ghost use Rattle.bitcask.specs.change.Append.{State, appended, room_after, judge, fresh_in};
 
 use crate::entry::{put_del, put_set};
-use crate::keydir::{Found, Slot, enter, find, leave};
+use crate::keydir::{Slot, enter, find, leave};
 use keycode::Refusal;
 
 // The end of a log's entries, and how many of its table's slots are in use.
@@ -17,51 +17,38 @@ pub struct Mark {
     pub count: usize,
 }
 
-// The room that is left in a log.
-#[derive(Clone, Copy)]
-pub enum Room {
-    Left(usize),
-    Full,
-}
-
-#[derive(Clone, Copy)]
-pub enum Check {
-    Fine,
-    Refused(Refusal),
-}
-
 // The room that an entry leaves. The lengths are compared one by one, so that no sum of them can wrap.
-pub fn room_after(room: Room, klen: usize, vlen: usize) -> Room
+pub fn room_after(room: Option<usize>, klen: usize, vlen: usize) -> Option<usize>
     ensures { result ≡ room_after room klen vlen }
 {
     match room {
-        Room::Full => Room::Full,
-        Room::Left(n) => {
+        None => None,
+        Some(n) => {
             if n < 8 {
-                return Room::Full;
+                return None;
             }
             if n - 8 < klen {
-                return Room::Full;
+                return None;
             }
             if n - 8 - klen < vlen {
-                return Room::Full;
+                return None;
             }
-            Room::Left(n - 8 - klen - vlen)
+            Some(n - 8 - klen - vlen)
         }
     }
 }
 
 // 7 where the entries have no room, then 8 where their new keys have no slots.
-pub(crate) fn judged(room: Room, fresh: usize, free: usize) -> Check
+pub(crate) fn judged(room: Option<usize>, fresh: usize, free: usize) -> Result<(), Refusal>
     ensures { result ≡ judge room fresh free }
 {
     match room {
-        Room::Full => Check::Refused(Refusal::LogFull),
-        Room::Left(_) => {
+        None => Err(Refusal::LogFull),
+        Some(_) => {
             if free < fresh {
-                Check::Refused(Refusal::TableFull)
+                Err(Refusal::TableFull)
             } else {
-                Check::Fine
+                Ok(())
             }
         }
     }
@@ -73,8 +60,8 @@ pub(crate) fn fresh(log: &[u8], table: &[u32], count: usize, key: &[u8]) -> usiz
     ensures { result ≡ fresh_in log.now key.now (slots_of count table.now) }
 {
     match find(log, table, count, key) {
-        Found::At(_) => 0,
-        Found::Before(_) => 1,
+        Ok(_) => 0,
+        Err(_) => 1,
     }
 }
 

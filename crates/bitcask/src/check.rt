@@ -10,10 +10,11 @@ ghost use Rattle.bitcask.specs.check.Told.{zeroed, is_less, is_equal, risen, ahe
 ghost use Rattle.bitcask.specs.check.Promises.{Tells};
 
 use crate::entry::{Read, entry_at};
-use crate::keydir::{Found, SLOT_WORDS, Slot, count, find, key_of, slot_at};
+use crate::keydir::{SLOT_WORDS, Slot, count, find, key_of, slot_at};
 use crate::read::value_part;
 use crate::request::{Used, fits};
-use keycode::{Order, compare};
+use keycode::compare;
+use std::cmp::Ordering;
 
 // An entry of the log as a slot, and whether it is a tombstone.
 #[derive(Clone, Copy)]
@@ -22,25 +23,12 @@ pub struct Seen {
     pub gone: bool,
 }
 
-#[derive(Clone, Copy)]
-pub enum Ahead {
-    Entry(Seen),
-    Over,
-}
-
 // An entry that no agreeing table allows, one that lies before its slot's or needs none, or a slot's own.
 #[derive(Clone, Copy)]
 pub enum Judged {
     Wrong,
     Early,
     Exact,
-}
-
-// How many entries are a slot's own.
-#[derive(Clone, Copy)]
-pub enum Walked {
-    Broken,
-    Met(usize),
 }
 
 // Whether every word from an index on is 0.
@@ -67,9 +55,9 @@ fn in_order(log: &[u8], table: &[u32], count: usize, i: usize) -> bool
         key_of(log, slot_at(table, i + 1)),
     );
     match o {
-        Order::Less => true,
-        Order::Equal => false,
-        Order::Greater => false,
+        Ordering::Less => true,
+        Ordering::Equal => false,
+        Ordering::Greater => false,
     }
 }
 
@@ -93,7 +81,7 @@ fn rising(log: &[u8], table: &[u32], count: usize) -> bool
 }
 
 // The entry at an offset.
-fn entry_from(log: &[u8], used: usize, at: usize) -> Ahead
+fn entry_from(log: &[u8], used: usize, at: usize) -> Option<Seen>
     requires { (at ≤ used) × (used ≤ max_log) }
     ensures { result ≡ ahead_of (item_of (entry_at log.now used at) at) }
 {
@@ -104,7 +92,7 @@ fn entry_from(log: &[u8], used: usize, at: usize) -> Ahead
                 klen: klen as u32,
                 vlen: vlen as u32,
             };
-            Ahead::Entry(Seen { slot, gone: false })
+            Some(Seen { slot, gone: false })
         }
         Read::Del { klen } => {
             let slot = Slot {
@@ -112,9 +100,9 @@ fn entry_from(log: &[u8], used: usize, at: usize) -> Ahead
                 klen: klen as u32,
                 vlen: 0,
             };
-            Ahead::Entry(Seen { slot, gone: true })
+            Some(Seen { slot, gone: true })
         }
-        Read::Stop => Ahead::Over,
+        Read::Stop => None,
     }
 }
 
@@ -132,9 +120,9 @@ fn same_key(log: &[u8], s: Slot, key: &[u8]) -> bool
 {
     let o = compare(key_of(log, s), key);
     match o {
-        Order::Less => false,
-        Order::Equal => true,
-        Order::Greater => false,
+        Ordering::Less => false,
+        Ordering::Equal => true,
+        Ordering::Greater => false,
     }
 }
 
@@ -146,10 +134,10 @@ fn later(log: &[u8], used: usize, from: usize, key: &[u8]) -> bool
     let mut at = from;
     loop {
         match entry_from(log, used, at) {
-            Ahead::Over => {
+            None => {
                 return false;
             }
-            Ahead::Entry(e) => {
+            Some(e) => {
                 let slot = e.slot;
                 if same_key(log, slot, key) {
                     return true;
@@ -190,8 +178,8 @@ fn judge(log: &[u8], used: usize, table: &[u32], count: usize, e: Seen) -> Judge
     let slot = e.slot;
     let key = key_of(log, slot);
     match find(log, table, count, key) {
-        Found::At(j) => against(slot_at(table, j), slot, e.gone),
-        Found::Before(_) => {
+        Ok(j) => against(slot_at(table, j), slot, e.gone),
+        Err(_) => {
             if e.gone {
                 return Judged::Early;
             }
@@ -205,7 +193,7 @@ fn judge(log: &[u8], used: usize, table: &[u32], count: usize, e: Seen) -> Judge
 }
 
 // The entries one after the other, up to the used length.
-fn walk(log: &[u8], used: usize, table: &[u32], count: usize) -> Walked
+fn walk(log: &[u8], used: usize, table: &[u32], count: usize) -> Option<usize>
     requires { (used ≤ max_log) × (slot_words * count ≤ length table.now) }
     ensures { result ≡ walked_in log.now used (slots_of count table.now) 0 (items log.now used 0) }
 {
@@ -213,17 +201,17 @@ fn walk(log: &[u8], used: usize, table: &[u32], count: usize) -> Walked
     let mut met = 0;
     loop {
         match entry_from(log, used, at) {
-            Ahead::Over => {
+            None => {
                 if at == used {
-                    return Walked::Met(met);
+                    return Some(met);
                 }
-                return Walked::Broken;
+                return None;
             }
-            Ahead::Entry(e) => {
+            Some(e) => {
                 let slot = e.slot;
                 match judge(log, used, table, count, e) {
                     Judged::Wrong => {
-                        return Walked::Broken;
+                        return None;
                     }
                     Judged::Early => {
                         at = past(slot);
@@ -248,8 +236,8 @@ pub fn agrees(log: &[u8], used: Used, table: &[u32]) -> bool
         if zeros(table, SLOT_WORDS * n) {
             if rising(log, table, n) {
                 return match walk(log, len, table, n) {
-                    Walked::Broken => false,
-                    Walked::Met(m) => m == n,
+                    None => false,
+                    Some(m) => m == n,
                 };
             }
         }

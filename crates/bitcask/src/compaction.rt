@@ -12,8 +12,8 @@ ghost use Rattle.bitcask.specs.compaction.Promises.{Compacts};
 use crate::entry::put_set;
 use crate::keydir::slots::store;
 use crate::keydir::{SLOT_WORDS, Slot, count, key_of, slot_at, value_of};
-use crate::report::{Sum, live_upto};
-use crate::request::{Changed, Used, fits};
+use crate::report::live_upto;
+use crate::request::{Used, fits};
 use keycode::Refusal;
 use keycode::limits::MAX_LOG;
 
@@ -55,23 +55,28 @@ fn move_all(log: &[u8], table: &mut [u32], count: usize, target: &mut [u8]) -> u
 }
 
 // 13 where a size is wrong, 7 where the live entries exceed the target; else the target's used length.
-pub fn compact(log: &[u8], used: Used, table: &mut [u32], target: &mut [u8]) -> Changed
+pub fn compact(
+    log: &[u8],
+    used: Used,
+    table: &mut [u32],
+    target: &mut [u8],
+) -> Result<Used, Refusal>
     ensures { Compacts log.now used.len table.old target.old result table.new target.new }
 {
     let end = used.len;
     if !fits(log.len(), end, table.len()) {
-        return Changed::Refused(Refusal::BadRequest);
+        return Err(Refusal::BadRequest);
     }
     let room = target.len();
     if MAX_LOG < room {
-        return Changed::Refused(Refusal::BadRequest);
+        return Err(Refusal::BadRequest);
     }
     let n = count(table);
     match live_upto(table, n, room) {
-        Sum::Over => Changed::Refused(Refusal::LogFull),
-        Sum::Total(_) => {
+        None => Err(Refusal::LogFull),
+        Some(_) => {
             let len = move_all(log, table, n, target);
-            Changed::Done(Used { len })
+            Ok(Used { len })
         }
     }
 }

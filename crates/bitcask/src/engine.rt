@@ -10,7 +10,6 @@ pub mod spot;
 pub(crate) mod tomb;
 pub mod walk;
 
-pub use crate::engine::mark::{Entered, Mark, enter};
+pub use crate::engine::mark::{Mark, enter};
 pub use crate::engine::span::Span;
-pub use crate::engine::spot::{Found, Spot};
-pub use crate::engine::walk::Near;
+pub use crate::engine::spot::Spot;

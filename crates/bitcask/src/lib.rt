@@ -17,11 +17,11 @@ pub mod recovery;
 pub mod report;
 pub mod request;
 
-pub use answers::{Bound, Located, Stepped};
+pub use answers::{Bound, KeyValue};
 pub use change::{delete, set};
 pub use check::agrees;
 pub use compaction::compact;
 pub use read::{get, part, scan_step};
 pub use recovery::open;
-pub use report::{Counted, Counts, status};
-pub use request::{Changed, Used};
+pub use report::{Counts, status};
+pub use request::Used;

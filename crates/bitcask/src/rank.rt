@@ -4,7 +4,7 @@ ghost use Rattle.bitcask.specs.keydir.Slots.{slot_words, slots_of};
 ghost use Rattle.bitcask.specs.read.Ranks.{below as below_of, upto as upto_of, from_bound, upto_bound};
 
 use crate::answers::Bound;
-use crate::keydir::{Found, find};
+use crate::keydir::find;
 
 // How many keys are below one.
 fn below(log: &[u8], table: &[u32], count: usize, key: &[u8]) -> usize
@@ -12,8 +12,8 @@ fn below(log: &[u8], table: &[u32], count: usize, key: &[u8]) -> usize
     ensures { (result ≡ below_of log.now key.now (slots_of count table.now)) × (result ≤ count) }
 {
     match find(log, table, count, key) {
-        Found::At(i) => i,
-        Found::Before(i) => i,
+        Ok(i) => i,
+        Err(i) => i,
     }
 }
 
@@ -23,8 +23,8 @@ fn upto(log: &[u8], table: &[u32], count: usize, key: &[u8]) -> usize
     ensures { (result ≡ upto_of log.now key.now (slots_of count table.now)) × (result ≤ count) }
 {
     match find(log, table, count, key) {
-        Found::At(i) => i + 1,
-        Found::Before(i) => i,
+        Ok(i) => i + 1,
+        Err(i) => i,
     }
 }
 

@@ -4,9 +4,9 @@ ghost use Rattle.std.specs.Prelude.{◌≡◌, ◌<◌, max, take, drop};
 ghost use Rattle.bitcask.specs.read.Ranks.{last_bound};
 ghost use Rattle.bitcask.specs.read.Promises.{Gets, Steps, key_part, value_part};
 
-use crate::answers::{Bound, Located, Stepped};
+use crate::answers::{Bound, KeyValue};
 use crate::keydir::slots::slot_at;
-use crate::keydir::{Found, Slot, count, find};
+use crate::keydir::{Slot, count, find};
 use crate::rank::{from_bound, upto_bound};
 use crate::request::{Used, fits};
 use keycode::parts::clip;
@@ -47,17 +47,17 @@ pub(crate) fn value_part(s: Slot) -> Part
     }
 }
 
-pub fn get(log: &[u8], used: Used, table: &[u32], key: &[u8]) -> Located
+pub fn get(log: &[u8], used: Used, table: &[u32], key: &[u8]) -> Result<Part, Refusal>
     ensures { Gets log.now used.len table.now key.now result }
 {
     let good = fits(log.len(), used.len, table.len());
     if !good {
-        return Located::Refused(Refusal::BadRequest);
+        return Err(Refusal::BadRequest);
     }
     let n = count(table);
     match find(log, table, n, key) {
-        Found::At(i) => Located::At(value_part(slot_at(table, i))),
-        Found::Before(_) => Located::Refused(Refusal::Absent),
+        Ok(i) => Ok(value_part(slot_at(table, i))),
+        Err(_) => Err(Refusal::Absent),
     }
 }
 
@@ -89,12 +89,12 @@ pub fn scan_step(
     high: &[u8],
     given: bool,
     last: &[u8],
-) -> Stepped
+) -> Result<KeyValue, Refusal>
     ensures { Steps log.now used.len table.now lower low.now upper high.now given last.now result }
 {
     let good = fits(log.len(), used.len, table.len());
     if !good {
-        return Stepped::Refused(Refusal::BadRequest);
+        return Err(Refusal::BadRequest);
     }
     let n = count(table);
     let a = from_bound(log, table, n, lower, low);
@@ -103,10 +103,10 @@ pub fn scan_step(
     let end = upto_bound(log, table, n, upper, high);
     if start < end {
         let s = slot_at(table, start);
-        return Stepped::Next {
+        return Ok(KeyValue {
             key: key_part(s),
             value: value_part(s),
-        };
+        });
     }
-    Stepped::Refused(Refusal::Absent)
+    Err(Refusal::Absent)
 }

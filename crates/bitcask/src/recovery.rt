@@ -10,33 +10,33 @@ ghost use Rattle.bitcask.specs.recovery.Promises.{Walks, Opens};
 
 use crate::keydir::clear;
 use crate::recovery::passing::{Passed, pass};
-use crate::request::{Changed, Used, fits};
+use crate::request::{Used, fits};
 use keycode::Refusal;
 
 // All entries, into a table that is clear: no log has more than it has bytes.
-fn walk(log: &[u8], used: usize, table: &mut [u32]) -> Changed
+fn walk(log: &[u8], used: usize, table: &mut [u32]) -> Result<Used, Refusal>
     requires { (used ≤ max_log) × (table.old ≡ replicate (length table.old) 0) }
     ensures { Walks log.now used (length table.old) result table.new }
 {
     let passed = pass(log, used, table, 0, 0, used);
     match passed {
-        Passed::Full => Changed::Refused(Refusal::TableFull),
+        Passed::Full => Err(Refusal::TableFull),
         Passed::On {
             at,
             count: _,
             left: _,
-        } => Changed::Done(Used { len: at }),
+        } => Ok(Used { len: at }),
     }
 }
 
 // The table of a log. A refusal leaves every word 0.
-pub fn open(log: &[u8], used: Used, table: &mut [u32]) -> Changed
+pub fn open(log: &[u8], used: Used, table: &mut [u32]) -> Result<Used, Refusal>
     ensures { Opens log.now used.len table.old result table.new }
 {
     clear(table);
     let len = used.len;
     if !fits(log.len(), len, table.len()) {
-        return Changed::Refused(Refusal::BadRequest);
+        return Err(Refusal::BadRequest);
     }
     walk(log, len, table)
 }

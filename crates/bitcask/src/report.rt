@@ -18,19 +18,6 @@ pub struct Counts {
     pub live: usize,
 }
 
-#[derive(Clone, Copy)]
-pub enum Counted {
-    Done(Counts),
-    Refused(Refusal),
-}
-
-// A sum that stops at a cap: words that were altered by hand could make any other wrap.
-#[derive(Clone, Copy)]
-pub enum Sum {
-    Total(usize),
-    Over,
-}
-
 // The bytes of an entry, of the lengths of its key and its value.
 fn entry_bytes(klen: u32, vlen: u32) -> usize
     ensures { (result ≡ 8 + klen + vlen) × (result < 8589934600) }
@@ -39,7 +26,7 @@ fn entry_bytes(klen: u32, vlen: u32) -> usize
 }
 
 // The bytes of the entries of the first `count` slots, as far as they are no more than the cap.
-pub(crate) fn live_upto(table: &[u32], count: usize, cap: usize) -> Sum
+pub(crate) fn live_upto(table: &[u32], count: usize, cap: usize) -> Option<usize>
     requires { slot_words * count ≤ length table.now }
     ensures { result ≡ capped cap (live_of (slots_of count table.now)) }
 {
@@ -49,31 +36,31 @@ pub(crate) fn live_upto(table: &[u32], count: usize, cap: usize) -> Sum
         let s = slot_at(table, i);
         let n = entry_bytes(s.klen, s.vlen);
         if cap - total < n {
-            return Sum::Over;
+            return None;
         }
         total += n;
         i += 1;
     }
-    Sum::Total(total)
+    Some(total)
 }
 
 // A table that agrees with its log names no more bytes than the log has; to one that names more nothing is promised.
-pub fn status(log: &[u8], used: Used, table: &[u32]) -> Counted
+pub fn status(log: &[u8], used: Used, table: &[u32]) -> Result<Counts, Refusal>
     ensures { Counting log.now used.len table.now result }
 {
     let end = used.len;
     if !fits(log.len(), end, table.len()) {
-        return Counted::Refused(Refusal::BadRequest);
+        return Err(Refusal::BadRequest);
     }
     let keys = count(table);
     match live_upto(table, keys, end) {
-        Sum::Over => Counted::Done(Counts {
+        None => Ok(Counts {
             keys: 0,
             size: 0,
             used: end,
             live: 0,
         }),
-        Sum::Total(live) => Counted::Done(Counts {
+        Some(live) => Ok(Counts {
             keys,
             size: live - 8 * keys,
             used: end,

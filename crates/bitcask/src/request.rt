@@ -12,12 +12,6 @@ pub struct Used {
     pub len: usize,
 }
 
-#[derive(Clone, Copy)]
-pub enum Changed {
-    Done(Used),
-    Refused(Refusal),
-}
-
 // Whether a log buffer, a used length and a table are of sizes that the store takes.
 pub fn fits(size: usize, used: usize, words: usize) -> bool
     ensures { result ≡ fit size used words }

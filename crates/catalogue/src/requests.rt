@@ -3,8 +3,9 @@ use crate::answers::{put_buffer, put_denied, put_done, put_row};
 use crate::fields::{kinds_of, row_of};
 use crate::hex::{byte_at, decimal, least, minus, plus, put, put_text, unhex};
 use crate::lines::word_end;
+use codecs::Denial;
 use keycode::parts::clip;
-use rows::{Kinds, Row, RowCheck, RowLength, decode_row, encode_row};
+use rows::{Kinds, Row, decode_row, encode_row};
 
 // The bytes of a buffer before a call, so that what the call leaves can be told.
 fn mark(out: &mut [u8]) {
@@ -15,10 +16,10 @@ fn mark(out: &mut [u8]) {
     }
 }
 
-fn put_length(answer: &mut [u8], at: usize, r: RowLength) -> usize {
+fn put_length(answer: &mut [u8], at: usize, r: Result<usize, Denial>) -> usize {
     match r {
-        RowLength::Done(n) => put_done(answer, at, n),
-        RowLength::Denied(d) => put_denied(answer, at, d, 0),
+        Ok(n) => put_done(answer, at, n),
+        Err(d) => put_denied(answer, at, d, 0),
     }
 }
 
@@ -30,10 +31,10 @@ fn encode_into(row: Row, texts: &[u8], out: &mut [u8], answer: &mut [u8], at: us
 }
 
 // A row that is refused has no fields.
-fn put_check(answer: &mut [u8], at: usize, check: RowCheck, n: usize) -> usize {
+fn put_check(answer: &mut [u8], at: usize, check: Result<(), Denial>, n: usize) -> usize {
     match check {
-        RowCheck::Whole => put_done(answer, at, n),
-        RowCheck::Denied(d) => put_denied(answer, at, d, n),
+        Ok(()) => put_done(answer, at, n),
+        Err(d) => put_denied(answer, at, d, n),
     }
 }
 

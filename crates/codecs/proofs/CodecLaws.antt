@@ -3,8 +3,8 @@
 use Prim.Native.Nat.{ℕ, suc}
 use mathlib.Core.Path.{◌≡◌, refl, sym, ap, subst, ◌∙◌}
 use mathlib.Core.List.{List, [], ◌∷◌, ◌++◌, append_assoc}
-use Rattle.keycode.specs.declared.order.Order.{Order}
-use Rattle.keycode.specs.declared.order.Order.TheVariants.{Less, Equal}
+use Rattle.std.specs.declared.cmp.Ordering.{Ordering}
+use Rattle.std.specs.declared.cmp.Ordering.TheVariants.{Less, Equal}
 use Rattle.keycode.specs.Order.{compare_bytes, and_then}
 use Rattle.codecs.specs.Denials.{Got, got, bad, map_got, before, then_got}
 use Rattle.keycode.proofs.Basics.{nope}
@@ -14,7 +14,7 @@ use Rattle.keycode.proofs.SortLaws.{Sorts, both_sort, alone}
 
 -- reading gives the value and what stands behind it; where a value is read, its bytes stood there; and the bytes sort as the values do,
 -- whatever follows them
-pub record Codec {A : Type 0} (Good : A → Type 0) (enc : A → List ℕ) (dec : List ℕ → Got A) (cmp : A → A → Order) : Type 0 where
+pub record Codec {A : Type 0} (Good : A → Type 0) (enc : A → List ℕ) (dec : List ℕ → Got A) (cmp : A → A → Ordering) : Type 0 where
   pub reads : (a : A) → Good a → (rest : List ℕ) → dec (enc a ++ rest) ≡ got a rest
   pub stood : (b : List ℕ) → Bytes b → (a : A) (rest : List ℕ) → dec b ≡ got a rest → (b ≡ enc a ++ rest) × Good a
   pub sorts : Sorts Good enc cmp
@@ -52,7 +52,7 @@ nothing =
       sorts = record { sorted = λ a b h g s t. refl };
     }
 
-module _ {A B : Type 0} {P : A → Type 0} {Q : B → Type 0} {f : A → List ℕ} {g : B → List ℕ} {d : List ℕ → Got A} {e : List ℕ → Got B} {p : A → A → Order} {q : B → B → Order}
+module _ {A B : Type 0} {P : A → Type 0} {Q : B → Type 0} {f : A → List ℕ} {g : B → List ℕ} {d : List ℕ → Got A} {e : List ℕ → Got B} {p : A → A → Ordering} {q : B → B → Ordering}
     (c : Codec P f d p) (k : Codec Q g e q) where
   both_reads : (v : A × B) → P v.0 × Q v.1 → (rest : List ℕ) → then_got (d (f v.0 ++ g v.1 ++ rest)) e ≡ got v rest
   unfolding then_got before
@@ -77,14 +77,14 @@ module _ {A B : Type 0} {P : A → Type 0} {Q : B → Type 0} {f : A → List �
 -- ---- a codec by way of another
 
 -- the values of one as values of the other, and back
-pub record Through {A B : Type 0} (P : A → Type 0) (Q : B → Type 0) (p : A → A → Order) (q : B → B → Order) (to : B → A) (from : A → B) : Type 0 where
+pub record Through {A B : Type 0} (P : A → Type 0) (Q : B → Type 0) (p : A → A → Ordering) (q : B → B → Ordering) (to : B → A) (from : A → B) : Type 0 where
   pub back : (b : B) → Q b → from (to b) ≡ b
   pub forth : (a : A) → P a → to (from a) ≡ a
   pub good : (b : B) → Q b → P (to b)
   pub fine : (a : A) → P a → Q (from a)
   pub alike : (b c : B) → Q b → Q c → p (to b) (to c) ≡ q b c
 
-module _ {A B : Type 0} {P : A → Type 0} {Q : B → Type 0} {f : A → List ℕ} {d : List ℕ → Got A} {p : A → A → Order} {q : B → B → Order} {to : B → A} {from : A → B}
+module _ {A B : Type 0} {P : A → Type 0} {Q : B → Type 0} {f : A → List ℕ} {d : List ℕ → Got A} {p : A → A → Ordering} {q : B → B → Ordering} {to : B → A} {from : A → B}
     (c : Codec P f d p) (t : Through P Q p q to from) where
   through_reads : (b : B) → Q b → (rest : List ℕ) → map_got from (d (f (to b) ++ rest)) ≡ got b rest
   unfolding map_got
@@ -103,19 +103,19 @@ module _ {A B : Type 0} {P : A → Type 0} {Q : B → Type 0} {f : A → List �
         reads = through_reads;
         stood = through_stood;
         sorts = record {
-          sorted = λ b z h g s r. c.sorts.sorted (to b) (to z) (t.good b h) (t.good z g) s r ∙ ap (λ (o : Order). and_then o (compare_bytes s r)) (t.alike b z h g);
+          sorted = λ b z h g s r. c.sorts.sorted (to b) (to z) (t.good b h) (t.good z g) s r ∙ ap (λ (o : Ordering). and_then o (compare_bytes s r)) (t.alike b z h g);
         };
       }
 
 -- ---- the order of a codec's values is total, since that of their bytes is
 
-pub record TotalOrder {A : Type 0} (Good : A → Type 0) (cmp : A → A → Order) : Type 0 where
+pub record TotalOrder {A : Type 0} (Good : A → Type 0) (cmp : A → A → Ordering) : Type 0 where
   pub self : (a : A) → Good a → cmp a a ≡ Equal
   pub only : (a b : A) → Good a → Good b → cmp a b ≡ Equal → a ≡ b
   pub flips : (a b : A) → Good a → Good b → cmp b a ≡ flip (cmp a b)
   pub chains : (a b c : A) → Good a → Good b → Good c → cmp a b ≡ Less → cmp b c ≡ Less → cmp a c ≡ Less
 
-module _ {A : Type 0} {P : A → Type 0} {f : A → List ℕ} {d : List ℕ → Got A} {p : A → A → Order} (c : Codec P f d p) where
+module _ {A : Type 0} {P : A → Type 0} {f : A → List ℕ} {d : List ℕ → Got A} {p : A → A → Ordering} (c : Codec P f d p) where
   -- values of the same bytes are one
   same_bytes : (a b : A) → P a → P b → f a ≡ f b → a ≡ b
   same_bytes a b h g e =

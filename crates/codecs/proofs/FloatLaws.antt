@@ -7,10 +7,10 @@ use native.Mathlib.Decide.{dec_le, ℕ_discrete}
 use native.Mathlib.Omega.{arith}
 use lib.Dec.{leb, lit<}
 use borrow.Author.Tests.{le-leb, lt-leb, eq-eqb, ne_eqb}
+use Rattle.std.specs.declared.cmp.Ordering.{Ordering}
+use Rattle.std.specs.declared.cmp.Ordering.TheVariants.{Less, Equal, Greater}
 use Rattle.keycode.specs.Tests.{pick}
 use Rattle.keycode.specs.Order.{compare_nat, and_then}
-use Rattle.keycode.specs.declared.order.Order.{Order}
-use Rattle.keycode.specs.declared.order.Order.TheVariants.{Less, Equal, Greater}
 use Rattle.codecs.specs.Signs.{flipped, unflipped}
 use Rattle.codecs.specs.Total.{finite, infinite, Datum, number, nan, negative, exponent, significand, scaled, datum_of, datum, compare_size, both_zero, total_order, compare_float}
 use Rattle.keycode.proofs.Basics.{Ordered, below, same, above, ordered}
@@ -49,7 +49,7 @@ scaled-same (suc e) t u h =
     rw (add-mul (2 ^ 52) t (2 ^ e), add-mul (2 ^ 52) u (2 ^ e)) (omega (arith, rw (suc-mul t (2 ^ e)) at m, power_pos e))
 
 -- by the first part and then the second
-abbrev by_both : ℕ → ℕ → ℕ → ℕ → Order
+abbrev by_both : ℕ → ℕ → ℕ → ℕ → Ordering
 by_both e t f u = and_then (compare_nat e f) (compare_nat t u)
 
 scaled_sorts : (e t f u : ℕ) → t < 2 ^ 52 → u < 2 ^ 52 → compare_nat (scaled e t) (scaled f u) ≡ by_both e t f u

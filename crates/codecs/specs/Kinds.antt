@@ -1,12 +1,12 @@
 -- The values of each kind of field, their bytes, what bytes they are read from, and their order; and the same for a row, over the list
 -- of its kinds. Document 02, W5. Assumes nothing.
+use Rattle.std.specs.declared.cmp.Ordering.{Ordering}
+use Rattle.std.specs.declared.cmp.Ordering.TheVariants.{Less, Equal, Greater}
 use Rattle.std.specs.Prelude.{ℕ, zero, suc, ◌^◌, ◌<◌, ◌≡◌, Bool, true, false, List, [], ◌∷◌, ◌++◌, length, take, drop, eqb, leb, ℤ}
 use Rattle.keycode.specs.Tests.{pick}
 use Rattle.keycode.specs.Number.{be, num}
 use Rattle.keycode.specs.Strings.{escape}
 use Rattle.keycode.specs.Order.{compare_nat, compare_bytes, and_then}
-use Rattle.keycode.specs.declared.order.Order.{Order}
-use Rattle.keycode.specs.declared.order.Order.TheVariants.{Less, Equal, Greater}
 use Rattle.codecs.specs.declared.fields.Kind.{Kind}
 use Rattle.codecs.specs.declared.fields.Kind.TheVariants.{Boolean, Unsigned, Signed, Float, Binary, String}
 use Rattle.codecs.specs.declared.fields.Denial.TheVariants.{BadKey, BadFlag, BadText}
@@ -27,7 +27,7 @@ read_flag (zero ∷ r) = got false r
 read_flag (suc zero ∷ r) = got true r
 read_flag (suc (suc x) ∷ r) = bad BadFlag
 
-unfoldable pub compare_flag : Bool → Bool → Order
+unfoldable pub compare_flag : Bool → Bool → Ordering
 compare_flag false false = Equal
 compare_flag false true = Less
 compare_flag true false = Greater
@@ -94,7 +94,7 @@ dec Float b = map_got unflipped (read_eight b)
 dec Binary b = read_bytes b
 dec String b = read_text b
 
-abbrev pub cmp : (k : Kind) → Val k → Val k → Order
+abbrev pub cmp : (k : Kind) → Val k → Val k → Ordering
 cmp Boolean v w = compare_flag v w
 cmp Unsigned v w = compare_nat v w
 cmp Signed v w = compare_int v w
@@ -123,7 +123,7 @@ dec_row [] b = got tt b
 dec_row (k ∷ ks) b = then_got (dec k b) (λ r. dec_row ks r)
 
 -- field by field
-abbrev pub cmp_row : (ks : List Kind) → Vals ks → Vals ks → Order
+abbrev pub cmp_row : (ks : List Kind) → Vals ks → Vals ks → Ordering
 cmp_row [] v w = Equal
 cmp_row (k ∷ ks) v w = and_then (cmp k v.0 w.0) (cmp_row ks v.1 w.1)
 

@@ -1,21 +1,21 @@
 // The engine's answers beside the plain reading.
 use crate::plain::{Plain, live, nth, read_log, word_of};
 use crate::tally::{Case, Tally, judge, more};
-use bitcask::{Bound, Changed, Located, Stepped, Used, get, open, scan_step};
+use bitcask::{Bound, KeyValue, Used, get, open, scan_step};
 use keycode::parts::clip;
-use keycode::{Part, number_of};
+use keycode::{Part, Refusal, number_of};
 
 fn wide(x: u32) -> usize {
     x as usize
 }
 
-fn same_answer(answer: Changed, plain: Plain) -> bool {
+fn same_answer(answer: Result<Used, Refusal>, plain: Plain) -> bool {
     match answer {
-        Changed::Done(u) => match plain {
+        Ok(u) => match plain {
             Plain::Cut(n) => u.len == n,
             Plain::Full => false,
         },
-        Changed::Refused(r) => match plain {
+        Err(r) => match plain {
             Plain::Cut(_) => false,
             Plain::Full => number_of(r) == 8,
         },
@@ -55,10 +55,10 @@ fn is_live(last: &[usize; 9], key: usize) -> bool {
     word_of(last, key, 0) != 0
 }
 
-fn same_get(answer: Located, last: &[usize; 9], key: usize) -> bool {
+fn same_get(answer: Result<Part, Refusal>, last: &[usize; 9], key: usize) -> bool {
     match answer {
-        Located::At(p) => is_live(last, key) && same_value(p, last, key),
-        Located::Refused(r) => !is_live(last, key) && number_of(r) == 1,
+        Ok(p) => is_live(last, key) && same_value(p, last, key),
+        Err(r) => !is_live(last, key) && number_of(r) == 1,
     }
 }
 
@@ -78,12 +78,12 @@ fn run_get(
     u
 }
 
-fn same_step(answer: Stepped, last: &[usize; 9], key: usize) -> bool {
+fn same_step(answer: Result<KeyValue, Refusal>, last: &[usize; 9], key: usize) -> bool {
     match answer {
-        Stepped::Next { key: k, value: v } => {
+        Ok(KeyValue { key: k, value: v }) => {
             is_live(last, key) && same_key(k, last, key) && same_value(v, last, key)
         }
-        Stepped::Refused(r) => !is_live(last, key) && number_of(r) == 1,
+        Err(r) => !is_live(last, key) && number_of(r) == 1,
     }
 }
 
@@ -148,17 +148,17 @@ fn run_gets(
     run_get(log, used, table, &b, 2, last, case, v)
 }
 
-fn is_full(answer: Changed) -> bool {
+fn is_full(answer: Result<Used, Refusal>) -> bool {
     match answer {
-        Changed::Done(_) => false,
-        Changed::Refused(r) => number_of(r) == 8,
+        Ok(_) => false,
+        Err(r) => number_of(r) == 8,
     }
 }
 
-fn used_after(answer: Changed) -> Used {
+fn used_after(answer: Result<Used, Refusal>) -> Used {
     match answer {
-        Changed::Done(u) => u,
-        Changed::Refused(_) => Used { len: 0 },
+        Ok(u) => u,
+        Err(_) => Used { len: 0 },
     }
 }
 

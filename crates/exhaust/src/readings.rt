@@ -1,8 +1,8 @@
 // The readings P6 to P9 of document 01, 'Bench readings', and openings at the edges, printed line by line: the log, the used length
 // and the table's size that were given, the answer, the live keys and the table's words.
 use crate::show::{show_bytes, show_number, show_size, show_text};
-use bitcask::{Changed, Used, open};
-use keycode::number_of;
+use bitcask::{Used, open};
+use keycode::{Refusal, number_of};
 
 fn show_word(word: u32) {
     show_number(b" ", word as u64);
@@ -31,10 +31,10 @@ fn keys(table: &[u32]) -> usize {
     n
 }
 
-fn show_answer(answer: Changed) {
+fn show_answer(answer: Result<Used, Refusal>) {
     match answer {
-        Changed::Done(u) => show_size(b": done, used ", u.len),
-        Changed::Refused(r) => show_number(b": refused with ", number_of(r) as u64),
+        Ok(u) => show_size(b": done, used ", u.len),
+        Err(r) => show_number(b": refused with ", number_of(r) as u64),
     }
 }
 

@@ -8,6 +8,7 @@ use native.Mathlib.Omega.{arith}
 use lib.Dec.{leb}
 use lib.ListN.{length, set, length-append}
 use borrow.Author.Tests.{le-leb, lt-leb}
+use Rattle.std.specs.Prelude.{Result, ℕ, Ok, Err}
 use Rattle.keycode.specs.Tests.{pick}
 use Rattle.keycode.specs.Limits.{max_key}
 use Rattle.keycode.specs.Number.{be}
@@ -15,8 +16,6 @@ use Rattle.keycode.specs.Buffer.{put}
 use Rattle.keycode.specs.Refusals.{number_of}
 use Rattle.keycode.specs.Strings.{unescaped, plain_length}
 use Rattle.keycode.specs.Promises.{Writes, fitted, into_room}
-use Rattle.keycode.specs.declared.refusal.Length.{Length}
-use Rattle.keycode.specs.declared.refusal.Length.TheVariants.{Done, Refused}
 use Rattle.keycode.specs.declared.refusal.Refusal.{Refusal}
 use Rattle.keycode.specs.declared.refusal.Refusal.TheVariants.{BadRequest}
 use Rattle.keycode.proofs.BufferLaws.{refused_stays, put_front, put-put}
@@ -25,8 +24,6 @@ use Rattle.keycode.proofs.StringLaws.{body_bound, plain_done}
 use Rattle.keycode.specs.key.Keys.{Fields, next_version, txn_active, txn_active_snapshot, txn_write, version, unversioned, encode, user_key, decode_why, forget}
 use Rattle.keycode.specs.encode.Promises.{encode_answer}
 use Rattle.keycode.specs.declared.key.Key.{Key}
-use Rattle.keycode.specs.declared.key.Decoded.{Decoded}
-use Rattle.keycode.specs.declared.key.Decoded.TheVariants.{Whole, Refused as NotWhole}
 use Rattle.keycode.proofs.encode.EncodeLaws.{measure_says, two_put, version-length, write_length, unversioned-length}
 use Rattle.host.specs.Answers.{half, length_of, packed, Tells}
 use Rattle.host.specs.Promises.{Gives, Encodes, Unescapes, Decodes, field_count, split, laid_out, split_bytes}
@@ -34,18 +31,18 @@ use Rattle.host.specs.declared.coding.Split.{Split}
 
 -- ---- the halves
 
-pub packed_tells : (a : Length) → length_of a < half → Tells a (packed a)
-packed_tells (Done n) h = record { number = omega arith; value = omega arith }
-packed_tells (Refused r) h = record { number = omega arith; value = omega arith }
+pub packed_tells : (a : Result ℕ Refusal) → length_of a < half → Tells a (packed a)
+packed_tells (Ok n) h = record { number = omega arith; value = omega arith }
+packed_tells (Err r) h = record { number = omega arith; value = omega arith }
 
-pub told_done : (n : ℕ) {a : Length} → a ≡ Done n → n ≡ packed a
+pub told_done : (n : ℕ) {a : Result ℕ Refusal} → a ≡ Ok n → n ≡ packed a
 told_done n e = rw e (omega arith)
 
-pub told_refused : (w : Refusal) {n : ℕ} {a : Length} → a ≡ Refused w → n ≡ number_of w → n * half ≡ packed a
+pub told_refused : (w : Refusal) {n : ℕ} {a : Result ℕ Refusal} → a ≡ Err w → n ≡ number_of w → n * half ≡ packed a
 told_refused w e q = rw (e, q) (omega arith)
 
 -- what a call wrote, with its answer packed
-gives : (a : Length) (e d : List ℕ) {x : Length} {r : ℕ} {out : List ℕ} → length_of a < half → Writes a e d x out → r ≡ packed x → Gives a e d r out
+gives : (a : Result ℕ Refusal) (e d : List ℕ) {x : Result ℕ Refusal} {r : ℕ} {out : List ℕ} → length_of a < half → Writes a e d x out → r ≡ packed x → Gives a e d r out
 gives a e d h w q = record { answer = rw (q, w.answer) (packed_tells a h); buffer = rw (← w.answer) w.buffer }
 
 -- ---- encoding
@@ -61,11 +58,11 @@ short (unversioned s) = omega (arith, unversioned-length s, body_bound s)
 encode-small : (k : Fields) (room : ℕ) → length_of (encode_answer (user_key k) (length (encode k)) room) < half
 encode-small k room = go (encode_answer (user_key k) (length (encode k)) room) refl
   where
-    go : (a : Length) → encode_answer (user_key k) (length (encode k)) room ≡ a → length_of a < half
-    go (Done m) e = let w = measure_says (user_key k) (length (encode k)) room m e in omega (arith, w.0, w.2, short k)
-    go (Refused r) e = omega arith
+    go : (a : Result ℕ Refusal) → encode_answer (user_key k) (length (encode k)) room ≡ a → length_of a < half
+    go (Ok m) e = let w = measure_says (user_key k) (length (encode k)) room m e in omega (arith, w.0, w.2, short k)
+    go (Err r) e = omega arith
 
-pub encode-gives : (k : Fields) (d : List ℕ) {x : Length} {r : ℕ} {out : List ℕ} → Writes (encode_answer (user_key k) (length (encode k)) (length d)) (encode k) d x out → r ≡ packed x → Encodes k d r out
+pub encode-gives : (k : Fields) (d : List ℕ) {x : Result ℕ Refusal} {r : ℕ} {out : List ℕ} → Writes (encode_answer (user_key k) (length (encode k)) (length d)) (encode k) d x out → r ≡ packed x → Encodes k d r out
 encode-gives k d w q = gives (encode_answer (user_key k) (length (encode k)) (length d)) (encode k) d (encode-small k (length d)) w q
 
 -- ---- unescaping
@@ -74,18 +71,18 @@ fitted-small : (n room : ℕ) → n ≤ max_key → length_of (fitted n room) < 
 unfolding fitted
 fitted-small n room h = go (leb n room)
   where
-    go : (b : Bool) → length_of (pick b (Done n) (Refused BadRequest)) < half
+    go : (b : Bool) → length_of (pick b (Ok n) (Err BadRequest)) < half
     go true = omega arith
     go false = omega arith
 
 plain_small : (s : List ℕ) (room : ℕ) → length_of (into_room (plain_length s) room) < half
 plain_small s room = go (plain_length s) refl
   where
-    go : (a : Length) → plain_length s ≡ a → length_of (into_room a room) < half
-    go (Done n) e = fitted-small n room (plain_done s n e).2
-    go (Refused r) e = omega arith
+    go : (a : Result ℕ Refusal) → plain_length s ≡ a → length_of (into_room a room) < half
+    go (Ok n) e = fitted-small n room (plain_done s n e).2
+    go (Err r) e = omega arith
 
-pub unescape_gives : (s d : List ℕ) {x : Length} {r : ℕ} {out : List ℕ} → Writes (into_room (plain_length s) (length d)) (unescaped s) d x out → r ≡ packed x → Unescapes s d r out
+pub unescape_gives : (s d : List ℕ) {x : Result ℕ Refusal} {r : ℕ} {out : List ℕ} → Writes (into_room (plain_length s) (length d)) (unescaped s) d x out → r ≡ packed x → Unescapes s d r out
 unescape_gives s d w q = gives (into_room (plain_length s) (length d)) (unescaped s) d (plain_small s (length d)) w q
 
 -- ---- decoding
@@ -102,16 +99,16 @@ lay-is kind v at len d d₁ d₂ d₃ h p q s =
     s ∙ rw (two_put kind (be 8 v) (be 8 at) d d₁ d₂ 9 (omega arith) (omega arith) p q, n) (put-put d 0 (kind ∷ be 8 v ++ be 8 at) (omega arith) (be 8 len) ∙ ap (put d 0) (ap (λ (x : List ℕ). kind ∷ x) (append_assoc (be 8 v) (be 8 at) (be 8 len))))
 
 module _ (b d : List ℕ) where
-  pub decode_short : {r : ℕ} → length d < field_count → r ≡ packed (Refused BadRequest) → Decodes b d r d
-  decode_short h q = rw (lt-leb field_count (length d) h, q) (record { answer = packed_tells (Refused BadRequest) (omega arith); buffer = refl })
+  pub decode_short : {r : ℕ} → length d < field_count → r ≡ packed (Err BadRequest) → Decodes b d r d
+  decode_short h q = rw (lt-leb field_count (length d) h, q) (record { answer = packed_tells (Err BadRequest) (omega arith); buffer = refl })
 
-  module _ {got : Decoded} {r : ℕ} (h : field_count ≤ length d) (e : got ≡ forget (decode_why max_key b)) where
-    pub decode_refused : (w : Refusal) → got ≡ NotWhole w → r ≡ packed (Refused w) → Decodes b d r d
+  module _ {got : Result Key Refusal} {r : ℕ} (h : field_count ≤ length d) (e : got ≡ forget (decode_why max_key b)) where
+    pub decode_refused : (w : Refusal) → got ≡ Err w → r ≡ packed (Err w) → Decodes b d r d
     decode_refused w g q =
         rw (le-leb field_count (length d) h, ← e, g, q)
-        (record { answer = packed_tells (Refused w) (omega arith); buffer = refused_stays w d d })
+        (record { answer = packed_tells (Err w) (omega arith); buffer = refused_stays w d d })
 
-    pub decode_whole : (k : Key) {s : Split} {out : List ℕ} → got ≡ Whole k → s ≡ split k → out ≡ put d 0 (split_bytes s) → r ≡ packed (Done field_count) → Decodes b d r out
+    pub decode_whole : (k : Key) {s : Split} {out : List ℕ} → got ≡ Ok k → s ≡ split k → out ≡ put d 0 (split_bytes s) → r ≡ packed (Ok field_count) → Decodes b d r out
     decode_whole k g p w q =
         rw (le-leb field_count (length d) h, ← e, g, q, w, p)
-        (record { answer = packed_tells (Done field_count) (omega arith); buffer = put_front d (split_bytes (split k)) })
+        (record { answer = packed_tells (Ok field_count) (omega arith); buffer = put_front d (split_bytes (split k)) })

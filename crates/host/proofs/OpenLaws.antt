@@ -2,25 +2,21 @@
 use Prim.Native.Nat.{ℕ, ◌*◌, ◌/◌, ◌%◌, ◌≤◌, ◌<◌}
 use mathlib.Core.Path.{◌≡◌, refl, sym, ap, ◌∙◌}
 use mathlib.Core.Bool.{Bool, true, false}
-use mathlib.Core.Option.{Option, none, some}
 use mathlib.Core.List.{List, []}
 use native.Mathlib.Omega.{arith}
 use lib.Dec.{eqb, ltb}
 use lib.ListN.{length, replicate}
 use borrow.Author.Tests.{eq-eqb, ne_eqb, eqb-true}
+use Rattle.bitcask.specs.declared.request.Used.{Used}
+use Rattle.std.specs.Prelude.{Result, ℕ, Err, Option, None, Some}
+use Rattle.keycode.specs.declared.refusal.Refusal.{Refusal}
 use Rattle.keycode.specs.Tests.{pick}
 use Rattle.keycode.specs.Limits.{max_log}
 use Rattle.keycode.specs.Refusals.{length_number}
-use Rattle.keycode.specs.declared.refusal.Length.{Length}
-use Rattle.keycode.specs.declared.refusal.Length.TheVariants.{Refused}
 use Rattle.keycode.specs.declared.refusal.Refusal.TheVariants.{BadRequest}
 use Rattle.keycode.proofs.NumberLaws.{Bytes}
 use Rattle.bitcask.specs.keydir.Slots.{slot_words}
-use Rattle.bitcask.specs.declared.keydir.place.Found.{Found}
-use Rattle.bitcask.specs.declared.keydir.place.Found.TheVariants.{Before}
 use Rattle.bitcask.specs.declared.keydir.slots.Slot.{Slot}
-use Rattle.bitcask.specs.declared.request.Changed.{Changed}
-use Rattle.bitcask.specs.declared.request.Changed.TheVariants.{Refused as NotOpened}
 use Rattle.bitcask.specs.recovery.Agree.{fit}
 use Rattle.bitcask.specs.recovery.Recover.{items, ends, room_for, run}
 use Rattle.bitcask.specs.recovery.Promises.{opened_by, opened_words, open_answer, open_table, Walks, Opens as OpensWords}
@@ -35,10 +31,10 @@ use Rattle.host.proofs.ByteLaws.{words-length, words-zeros, spread-words, spread
 
 -- ---- room for a slot
 
-pub room_new : (slots count i : ℕ) {f : Found} → f ≡ Before i → ltb count slots ≡ room_for slots false f count
+pub room_new : (slots count i : ℕ) {f : Result ℕ ℕ} → f ≡ Err i → ltb count slots ≡ room_for slots false f count
 room_new slots count i e = rw e
 
-pub room-words : (b : List ℕ) (f : Found) (n : ℕ) {r : Bool} → r ≡ room_for (length b / slot_bytes) false f n → r ≡ room_for (length (words_in b) / slot_words) false f n
+pub room-words : (b : List ℕ) (f : Result ℕ ℕ) (n : ℕ) {r : Bool} → r ≡ room_for (length b / slot_bytes) false f n → r ≡ room_for (length (words_in b) / slot_words) false f n
 room-words b f n e = e ∙ ap (λ (k : ℕ). room_for k false f n) (slot-count b)
 
 -- ---- a table that was cleared
@@ -51,19 +47,19 @@ cleared b₀ b {b₁} e l =
 
 -- ---- the answer
 
-pub used-is : (r : Changed) {c : Changed} → r ≡ c → used_length c ≡ used_length r
+pub used-is : (r : Result Used Refusal) {c : Result Used Refusal} → r ≡ c → used_length c ≡ used_length r
 used-is r e = ap used_length (sym e)
 
 -- no used length reaches the half
 opened-small : (o : Option (List Slot)) (n : ℕ) → n < half → length_of (used_length (opened_by o n)) < half
-opened-small none n h = omega arith
-opened-small (some ss) n h = h
+opened-small None n h = omega arith
+opened-small (Some ss) n h = h
 
 answer-small : (log : List ℕ) (used n : ℕ) → length_of (used_length (open_answer log used n)) < half
 unfolding open_answer
 answer-small log used n = go (fit (length log) used n) refl
   where
-    go : (b : Bool) → fit (length log) used n ≡ b → length_of (used_length (pick b (opened_by (run log (n / slot_words) (items log used 0) []) (ends 0 (items log used 0))) (NotOpened BadRequest))) < half
+    go : (b : Bool) → fit (length log) used n ≡ b → length_of (used_length (pick b (opened_by (run log (n / slot_words) (items log used 0) []) (ends 0 (items log used 0))) (Err BadRequest))) < half
     go true e =
         let s = fit-sound (length log) used n e in
         opened-small (run log (n / slot_words) (items log used 0) []) (ends 0 (items log used 0))
@@ -72,14 +68,14 @@ answer-small log used n = go (fit (length log) used n) refl
 
 module _ (log : List ℕ) (used : ℕ) (t : List ℕ) {t' : List ℕ} {r : ℕ} where
   -- bytes that are no whole words
-  pub open_odd : t' ≡ replicate (length t) 0 → length t' ≡ length t → (length t' % word_bytes ≡ 0 → ⊥) → r ≡ packed (Refused BadRequest) → Opens log used t r t'
+  pub open_odd : t' ≡ replicate (length t) 0 → length t' ≡ length t → (length t' % word_bytes ≡ 0 → ⊥) → r ≡ packed (Err BadRequest) → Opens log used t r t'
   unfolding open_length open_bytes
   open_odd e l f q =
       let p = ne_eqb (length t % word_bytes) 0 (λ g. f (ap (λ (n : ℕ). n % word_bytes) l ∙ g)) in
-      record { answer = rw (p, q) (packed_tells (Refused BadRequest) (omega arith)); table = rw p e }
+      record { answer = rw (p, q) (packed_tells (Err BadRequest) (omega arith)); table = rw p e }
 
   -- whole words, of which the opening is
-  pub open_bytes_lem : {c : Changed} → OpensWords log used (words_in t) c (words_in t') → Bytes t' → length t' ≡ length t → length t % word_bytes ≡ 0 → r ≡ packed (used_length c) → Opens log used t r t'
+  pub open_bytes_lem : {c : Result Used Refusal} → OpensWords log used (words_in t) c (words_in t') → Bytes t' → length t' ≡ length t → length t % word_bytes ≡ 0 → r ≡ packed (used_length c) → Opens log used t r t'
   unfolding open_length open_bytes
   open_bytes_lem o y l m q =
       let p = eq-eqb (length t % word_bytes) 0 m in
@@ -99,7 +95,7 @@ module _ (log : List ℕ) (used : ℕ) (t : List ℕ) {t₁ : List ℕ} (e : t�
   fit_words : b ≡ fit (length log) used (length (words_in t₁))
   fit_words = f ∙ ap (fit (length log) used) (sym (words-length t₁))
 
-  pub open_refused : {r : ℕ} → b ≡ false → Bytes t₁ → length t₁ % word_bytes ≡ 0 → r ≡ packed (Refused BadRequest) → Opens log used t r t₁
+  pub open_refused : {r : ℕ} → b ≡ false → Bytes t₁ → length t₁ % word_bytes ≡ 0 → r ≡ packed (Err BadRequest) → Opens log used t r t₁
   open_refused q y m p =
       open_bytes_lem log used t (open_bad log used (words_in t) (cleared t t e refl) same-words fit_words q) y l (ap (λ (k : ℕ). k % word_bytes) (sym l) ∙ m) p
 
@@ -110,7 +106,7 @@ module _ (log : List ℕ) (used : ℕ) (t : List ℕ) {t₁ : List ℕ} (e : t�
     pub walk_clear : words_in t₁ ≡ replicate (length (words_in t₁)) 0
     walk_clear = open_clear log used (words_in t) (cleared t t e refl) same-words fit_words q
 
-    pub open_done : {c : Changed} {a : Length} {r : ℕ} {t' : List ℕ} → Walks log used (length (words_in t₁)) c (words_in t') → Bytes t' → length t' ≡ length t₁ → length t₁ % word_bytes ≡ 0
+    pub open_done : {c : Result Used Refusal} {a : Result ℕ Refusal} {r : ℕ} {t' : List ℕ} → Walks log used (length (words_in t₁)) c (words_in t') → Bytes t' → length t' ≡ length t₁ → length t₁ % word_bytes ≡ 0
         → a ≡ used_length c → r ≡ packed a → Opens log used t r t'
     open_done w y k m g p =
         open_bytes_lem log used t (open_walked log used (words_in t) (cleared t t e refl) same-words fit_words q w) y (k ∙ l) (ap (λ (n : ℕ). n % word_bytes) (sym l) ∙ m) (p ∙ ap packed g)
@@ -129,9 +125,9 @@ refused_clears log used t o h =
         spread-zeros (length t / word_bytes) ∙ ap (λ (k : ℕ). replicate k 0) n
 
     go : (b : Bool) → eqb (length t % word_bytes) 0 ≡ b → (c : Bool) (s : Option (List Slot))
-        → (length_number (pick b (used_length (pick c (opened_by s (ends 0 (items log used 0))) (NotOpened BadRequest))) (Refused BadRequest)) ≡ 0 → ⊥)
+        → (length_number (pick b (used_length (pick c (opened_by s (ends 0 (items log used 0))) (Err BadRequest))) (Err BadRequest)) ≡ 0 → ⊥)
         → pick b (spread (pick c (opened_words (length t / word_bytes) s) (replicate (length t / word_bytes) 0))) (replicate (length t) 0) ≡ replicate (length t) 0
     go false e c s k = refl
     go true e false s k = zeros e
-    go true e true none k = zeros e
-    go true e true (some ss) k = absurd (k refl)
+    go true e true None k = zeros e
+    go true e true (Some ss) k = absurd (k refl)

@@ -2,18 +2,16 @@
 use Prim.Native.Nat.{ℕ, ◌+◌, ◌/◌, ◌≤◌}
 use mathlib.Core.Path.{◌≡◌, refl, sym, ap, ◌∙◌}
 use mathlib.Core.Bool.{Bool, true, false}
-use mathlib.Core.Option.{none, some}
 use mathlib.Core.List.{List}
 use native.Mathlib.Omega.{arith}
 use lib.Dec.{ltb}
 use lib.ListN.{length}
+use Rattle.std.specs.Prelude.{Result, ℕ, Ok, Err, None, Some}
 use Rattle.bitcask.specs.declared.entry.read.Read.{Read}
 use Rattle.bitcask.specs.declared.entry.read.Read.TheVariants.{Set, Del, Stop}
 use Rattle.bitcask.specs.entry.Reading.{entry_at}
 use Rattle.bitcask.proofs.entry.ReadingLaws.{entry-within}
 use Rattle.bitcask.specs.declared.keydir.slots.Slot.{Slot}
-use Rattle.bitcask.specs.declared.keydir.place.Found.{Found}
-use Rattle.bitcask.specs.declared.keydir.place.Found.TheVariants.{At, Before}
 use Rattle.bitcask.specs.keydir.Slots.{slot_words, slots_of, key_of}
 use Rattle.bitcask.specs.keydir.Place.{place_of, Among, put_at, cut_at, room_at, entered, Becomes}
 use Rattle.bitcask.proofs.keydir.SlotLaws.{slots_length}
@@ -26,18 +24,18 @@ use Rattle.host.specs.Taking.{tried, Takes, TakesEntry}
 
 -- ---- an entry, at the place that was found
 
-pub room_new : (words count i : ℕ) {f : Found} → f ≡ Before i → ltb count (words / slot_words) ≡ room_for (words / slot_words) false f count
+pub room_new : (words count i : ℕ) {f : Result ℕ ℕ} → f ≡ Err i → ltb count (words / slot_words) ≡ room_for (words / slot_words) false f count
 room_new words count i e = rw e
 
 -- of an entry's new slots
-takes_some : (log t : List ℕ) (n : ℕ) (i : Item) (end : ℕ) {ss : List Slot} {r : ℕ} {t' : List ℕ} → tried log t n i ≡ some ss → Becomes t n ss t' r → Takes log t n i end (Next end r) t'
+takes_some : (log t : List ℕ) (n : ℕ) (i : Item) (end : ℕ) {ss : List Slot} {r : ℕ} {t' : List ℕ} → tried log t n i ≡ Some ss → Becomes t n ss t' r → Takes log t n i end (Next end r) t'
 takes_some log t n i end q w = record { answer = rw q (ap (Next end) w.count); words = rw q w.words }
 
-same-room : (t : List ℕ) (f : Found) (ss : List Slot) → room_at t f ss ≡ room_for (length t / slot_words) false f (length ss)
-same-room t (At i) ss = refl
-same-room t (Before i) ss = refl
+same-room : (t : List ℕ) (f : Result ℕ ℕ) (ss : List Slot) → room_at t f ss ≡ room_for (length t / slot_words) false f (length ss)
+same-room t (Ok i) ss = refl
+same-room t (Err i) ss = refl
 
-module _ (log t : List ℕ) (n : ℕ) (s : Slot) {key : List ℕ} {f : Found} (ek : key ≡ key_of log s) (ef : f ≡ place_of log key (slots_of n t)) where
+module _ (log t : List ℕ) (n : ℕ) (s : Slot) {key : List ℕ} {f : Result ℕ ℕ} (ek : key ≡ key_of log s) (ef : f ≡ place_of log key (slots_of n t)) where
   pub found_among : Among n f
   found_among = rw ef (rw (slots_length n t) at (place-among log key (slots_of n t)))
 
@@ -56,13 +54,13 @@ module _ (log t : List ℕ) (n : ℕ) (s : Slot) {key : List ℕ} {f : Found} (e
     pub set_full : b ≡ false → Takes log t n (record { slot = s; gone = false }) end Full t
     unfolding step_in
     set_full e =
-        let q : tried log t n (record { slot = s; gone = false }) ≡ none = tried-is false ∙ rw (room-is, e) in
+        let q : tried log t n (record { slot = s; gone = false }) ≡ None = tried-is false ∙ rw (room-is, e) in
         record { answer = rw q; words = rw q }
 
     pub set_takes : {r : ℕ} {t' : List ℕ} → b ≡ true → Becomes t n (entered t s f (slots_of n t)) t' r → Takes log t n (record { slot = s; gone = false }) end (Next end r) t'
     unfolding step_in
     set_takes e w =
-        let q : tried log t n (record { slot = s; gone = false }) ≡ some (put_at s f (slots_of n t)) = tried-is false ∙ rw (room-is, e) in
+        let q : tried log t n (record { slot = s; gone = false }) ≡ Some (put_at s f (slots_of n t)) = tried-is false ∙ rw (room-is, e) in
         let p : entered t s f (slots_of n t) ≡ put_at s f (slots_of n t) = entered-room t s f (slots_of n t) (same-room t f (slots_of n t) ∙ room-is ∙ e) in
         takes_some log t n (record { slot = s; gone = false }) end q (rw p at w)
 

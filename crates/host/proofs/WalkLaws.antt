@@ -1,10 +1,10 @@
 -- Laws of the walk over all entries, one at a time: what holds before each, and what it comes to. Assumes nothing.
 use Prim.Native.Nat.{ℕ, ◌-◌, ◌*◌, ◌/◌, ◌≤◌, ◌<◌}
 use mathlib.Core.Path.{◌≡◌, refl, sym, ap, ◌∙◌, subst₂}
-use mathlib.Core.Option.{Option, none, some}
 use mathlib.Core.List.{List, []}
 use native.Mathlib.Omega.{arith}
 use lib.ListN.{length, replicate}
+use Rattle.std.specs.Prelude.{Ok, Err, Option, None, Some}
 use Rattle.keycode.specs.declared.refusal.Refusal.TheVariants.{TableFull}
 use Rattle.keycode.proofs.Basics.{nope}
 use Rattle.bitcask.specs.entry.Reading.{entry_at}
@@ -13,7 +13,6 @@ use Rattle.bitcask.specs.keydir.Slots.{slot_words, table_of, key_of}
 use Rattle.bitcask.specs.keydir.Place.{place_in, Sorted, sorted_none}
 use Rattle.bitcask.proofs.keydir.PlaceLaws.{place_in_among, place-sorted}
 use Rattle.bitcask.proofs.keydir.TableLaws.{table_empty, table-length, table-slots, table-laid}
-use Rattle.bitcask.specs.declared.request.Changed.TheVariants.{Done, Refused}
 use Rattle.host.specs.declared.opening.Took.{Took}
 use Rattle.host.specs.declared.opening.Took.TheVariants.{Over, Full, Next}
 use Rattle.bitcask.specs.recovery.Recover.{Item, item_of, next, items, ends, step_in, then_run, run}
@@ -26,37 +25,37 @@ use Rattle.bitcask.proofs.recovery.WalkLaws.{step_some, step_room}
 -- ---- what an entry's answer says
 
 not_over : (end : ℕ) (o : Option (List Slot)) → took_by end o ≡ Over → ⊥
-not_over end none e = nope (cc)
-not_over end (some ss) e = nope (cc)
+not_over end None e = nope (cc)
+not_over end (Some ss) e = nope (cc)
 
-says-over : (o : Option Item) (f : Item → Option (List Slot)) → took_of o f ≡ Over → o ≡ none
-says-over none f e = refl
-says-over (some i) f e = absurd (not_over (next i) (f i) e)
+says-over : (o : Option Item) (f : Item → Option (List Slot)) → took_of o f ≡ Over → o ≡ None
+says-over None f e = refl
+says-over (Some i) f e = absurd (not_over (next i) (f i) e)
 
-by_full : (end : ℕ) (o : Option (List Slot)) → took_by end o ≡ Full → o ≡ none
-by_full end none e = refl
-by_full end (some ss) e = nope (cc)
+by_full : (end : ℕ) (o : Option (List Slot)) → took_by end o ≡ Full → o ≡ None
+by_full end None e = refl
+by_full end (Some ss) e = nope (cc)
 
-says-full : (o : Option Item) (f : Item → Option (List Slot)) → took_of o f ≡ Full → (i : Item) × (o ≡ some i) × (f i ≡ none)
-says-full none f e = nope (cc)
-says-full (some i) f e = (i, refl, by_full (next i) (f i) e)
+says-full : (o : Option Item) (f : Item → Option (List Slot)) → took_of o f ≡ Full → (i : Item) × (o ≡ Some i) × (f i ≡ None)
+says-full None f e = nope (cc)
+says-full (Some i) f e = (i, refl, by_full (next i) (f i) e)
 
 -- the entry, the slots that it left, and where the walk goes on
 record Went (o : Option Item) (f : Item → Option (List Slot)) (a m : ℕ) : Type 0 where
   item : Item
   slots : List Slot
-  was : o ≡ some item
-  became : f item ≡ some slots
+  was : o ≡ Some item
+  became : f item ≡ Some slots
   to : a ≡ next item
   count : m ≡ length slots
 
-by_next : (i : Item) (f : Item → Option (List Slot)) (o : Option (List Slot)) (a m : ℕ) → f i ≡ o → took_by (next i) o ≡ Next a m → Went (some i) f a m
-by_next i f none a m q e = nope (cc)
-by_next i f (some ss) a m q e = record { item = i; slots = ss; was = refl; became = q; to = cc; count = cc }
+by_next : (i : Item) (f : Item → Option (List Slot)) (o : Option (List Slot)) (a m : ℕ) → f i ≡ o → took_by (next i) o ≡ Next a m → Went (Some i) f a m
+by_next i f None a m q e = nope (cc)
+by_next i f (Some ss) a m q e = record { item = i; slots = ss; was = refl; became = q; to = cc; count = cc }
 
 says-next : (o : Option Item) (f : Item → Option (List Slot)) (a m : ℕ) → took_of o f ≡ Next a m → Went o f a m
-says-next none f a m e = nope (cc)
-says-next (some i) f a m e = by_next i f (f i) a m refl e
+says-next None f a m e = nope (cc)
+says-next (Some i) f a m e = by_next i f (f i) a m refl e
 
 -- ---- what holds before each entry
 
@@ -100,30 +99,30 @@ module _ {log : List ℕ} {used n : ℕ} {t : List ℕ} {at count : ℕ} (w : Wa
   run_is i = tried-is log t n count w.slots w.words w.counted w.room w.sorted i
 
   module _ {r : Took} {t' : List ℕ} (v : TakesEntry log used t count at r t') where
-    pub walk_over : r ≡ Over → Walks log used n (Done (record { len = at })) t'
+    pub walk_over : r ≡ Over → Walks log used n (Ok (record { len = at })) t'
     unfolding run ends
     walk_over e =
-        let o : item_of (entry_at log used at) at ≡ none = says-over (item_of (entry_at log used at) at) (tried log t count) (sym v.answer ∙ e) in
+        let o : item_of (entry_at log used at) at ≡ None = says-over (item_of (entry_at log used at) at) (tried log t count) (sym v.answer ∙ e) in
         let z : items log used at ≡ [] = items-stop log used at o in
-        let p : run log (n / slot_words) (items log used 0) [] ≡ some w.slots = sym w.runs ∙ ap (λ (is : List Item). run log (n / slot_words) is w.slots) z in
+        let p : run log (n / slot_words) (items log used 0) [] ≡ Some w.slots = sym w.runs ∙ ap (λ (is : List Item). run log (n / slot_words) is w.slots) z in
         let q : ends 0 (items log used 0) ≡ at = sym w.ended ∙ ap (ends at) z in
         record { answer = rw (p, q); table = v.words ∙ rw (o, p) w.words }
 
-    pub walk_full : r ≡ Full → Walks log used n (Refused TableFull) (replicate n 0)
+    pub walk_full : r ≡ Full → Walks log used n (Err TableFull) (replicate n 0)
     unfolding run
     walk_full e =
         let g = says-full (item_of (entry_at log used at) at) (tried log t count) (sym v.answer ∙ e) in
         let z = items-next log used at g.0 g.1 in
-        let p : run log (n / slot_words) (items log used 0) [] ≡ none = sym w.runs ∙ ap (λ (is : List Item). run log (n / slot_words) is w.slots) z
+        let p : run log (n / slot_words) (items log used 0) [] ≡ None = sym w.runs ∙ ap (λ (is : List Item). run log (n / slot_words) is w.slots) z
         ∙ ap (λ (x : Option (List Slot)). then_run x (λ y. run log (n / slot_words) (items log used (next g.0)) y)) (sym (run_is g.0) ∙ g.2) in
         record { answer = rw p; table = rw p }
 
-    walked : (i : Item) (ss : List Slot) → item_of (entry_at log used at) at ≡ some i → tried log t count i ≡ some ss → Walking log used n t' (next i) (length ss)
+    walked : (i : Item) (ss : List Slot) → item_of (entry_at log used at) at ≡ Some i → tried log t count i ≡ Some ss → Walking log used n t' (next i) (length ss)
     unfolding run ends
     walked i ss was became =
         let z = items-next log used at i was in
         let k : List ℕ = key_of log i.slot in
-        let s : step_in (n / slot_words) i (place_in log k w.slots) w.slots ≡ some ss = sym (run_is i) ∙ became in
+        let s : step_in (n / slot_words) i (place_in log k w.slots) w.slots ≡ Some ss = sym (run_is i) ∙ became in
         let m : length ss ≤ n / slot_words = step_room (n / slot_words) i (place_in log k w.slots) w.slots s (place_in_among log k w.slots) (omega (arith, w.room)) in
         record {
           slots = ss;

@@ -1,7 +1,6 @@
 -- Opening entry by entry, for any words and any number of slots in use: what one entry gives back and leaves of the table. The place
 -- of a key is where the search finds it. Assumes nothing.
-use Rattle.std.specs.Prelude.{ℕ, ◌/◌, ◌≡◌, List, length}
-use Rattle.std.proofs.Math.Option.{Option, none, some}
+use Rattle.std.specs.Prelude.{ℕ, ◌/◌, ◌≡◌, List, length, Option, None, Some}
 use Rattle.bitcask.specs.entry.Reading.{entry_at}
 use Rattle.bitcask.specs.declared.keydir.slots.Slot.{Slot}
 use Rattle.bitcask.specs.keydir.Slots.{slot_words, slots_of, key_of}
@@ -16,22 +15,22 @@ tried log t n i = step_in (length t / slot_words) i (place_of log (key_of log i.
 
 -- the answer, of an entry that ends at an offset
 abbrev pub took_by : ℕ → Option (List Slot) → Took
-took_by end none = Full
-took_by end (some ss) = Next end (length ss)
+took_by end None = Full
+took_by end (Some ss) = Next end (length ss)
 
 -- the words of a table of n slots
 abbrev pub words_by : List ℕ → ℕ → Option (List Slot) → List ℕ
-words_by t n none = t
-words_by t n (some ss) = laid n ss t
+words_by t n None = t
+words_by t n (Some ss) = laid n ss t
 
 -- the same of what stands at an offset
 abbrev pub took_of : Option Item → (Item → Option (List Slot)) → Took
-took_of none f = Over
-took_of (some i) f = took_by (next i) (f i)
+took_of None f = Over
+took_of (Some i) f = took_by (next i) (f i)
 
 abbrev pub took_words : List ℕ → ℕ → Option Item → (Item → Option (List Slot)) → List ℕ
-took_words t n none f = t
-took_words t n (some i) f = words_by t n (f i)
+took_words t n None f = t
+took_words t n (Some i) f = words_by t n (f i)
 
 -- an entry that ends at an offset has been taken
 pub record Takes (log t : List ℕ) (n : ℕ) (i : Item) (end : ℕ) (r : Took) (t' : List ℕ) : Type 0 where

@@ -2,7 +2,7 @@
 ghost use Rattle.std.specs.Prelude.{◌≡◌, ◌<◌};
 ghost use Rattle.host.specs.Answers.{packed};
 
-use keycode::{Length, number_of};
+use keycode::{Refusal, number_of};
 
 // Where the number begins.
 const HALF: u64 = 0x1_0000_0000;
@@ -14,11 +14,11 @@ fn wide(n: u8) -> u64
     n as u64
 }
 
-pub(crate) fn told(a: Length) -> u64
+pub(crate) fn told(a: Result<usize, Refusal>) -> u64
     ensures { result ≡ packed a }
 {
     match a {
-        Length::Done(n) => n as u64,
-        Length::Refused(r) => wide(number_of(r)) * HALF,
+        Ok(n) => n as u64,
+        Err(r) => wide(number_of(r)) * HALF,
     }
 }

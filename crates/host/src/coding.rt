@@ -8,8 +8,8 @@ ghost use Rattle.host.specs.Promises.{Encodes, Decodes, Unescapes, field_count, 
 use crate::answers::told;
 use keycode::number::put_number;
 use keycode::{
-    Decoded, Key, Length, Refusal, decode, encode_next_version, encode_txn_active,
-    encode_txn_active_snapshot, encode_txn_write, encode_unversioned, encode_version, unescape,
+    Key, Refusal, decode, encode_next_version, encode_txn_active, encode_txn_active_snapshot,
+    encode_txn_write, encode_unversioned, encode_version, unescape,
 };
 
 #[unsafe(no_mangle)]
@@ -114,14 +114,14 @@ pub extern "C" fn tjaldrum_decode(bytes: &[u8], out: &mut [u8]) -> u64
     ensures { Decodes bytes.now out.old result out.new }
 {
     if out.len() < FIELDS {
-        return told(Length::Refused(Refusal::BadRequest));
+        return told(Err(Refusal::BadRequest));
     }
     match decode(bytes) {
-        Decoded::Whole(key) => {
+        Ok(key) => {
             let s = split_up(key);
             lay_out(s.kind, s.version, s.at, s.len, out);
-            told(Length::Done(FIELDS))
+            told(Ok(FIELDS))
         }
-        Decoded::Refused(r) => told(Length::Refused(r)),
+        Err(r) => told(Err(r)),
     }
 }

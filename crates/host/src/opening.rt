@@ -12,11 +12,11 @@ ghost use Rattle.host.specs.Promises.{used_length, Opens};
 use crate::answers::told;
 use crate::place::{enter, find, leave};
 use crate::slots::{SLOT_BYTES, WORD_BYTES, clear};
+use bitcask::Used;
 use bitcask::entry::{Read, entry_at};
-use bitcask::keydir::{Found, Slot, key_of};
+use bitcask::keydir::{Slot, key_of};
 use bitcask::request::fits;
-use bitcask::{Changed, Used};
-use keycode::{Length, Refusal};
+use keycode::Refusal;
 
 // What came of an entry: there is none, none of the slots was free for its key, or where the next begins and how many slots are in use.
 #[derive(Clone, Copy)]
@@ -39,12 +39,12 @@ fn slot_for(at: usize, klen: usize, vlen: usize) -> Slot
 }
 
 // Whether so many slots, of which `count` are in use, take one at a place that was found.
-fn has_room(slots: usize, count: usize, found: Found) -> bool
+fn has_room(slots: usize, count: usize, found: Result<usize, usize>) -> bool
     ensures { result ≡ room_for slots false found count }
 {
     match found {
-        Found::At(_) => true,
-        Found::Before(_) => count < slots,
+        Ok(_) => true,
+        Err(_) => count < slots,
     }
 }
 
@@ -91,7 +91,7 @@ fn take_entry(log: &[u8], used: usize, table: &mut [u8], count: usize, at: usize
 }
 
 // All entries, into a table that is clear.
-fn walk(log: &[u8], used: usize, table: &mut [u8]) -> Changed
+fn walk(log: &[u8], used: usize, table: &mut [u8]) -> Result<Used, Refusal>
     requires { (used ≤ max_log) × (words_in table.old ≡ replicate (length (words_in table.old)) 0) }
     ensures { Walks log.now used (length (words_in table.old)) result (words_in table.new) }
 {
@@ -101,11 +101,11 @@ fn walk(log: &[u8], used: usize, table: &mut [u8]) -> Changed
         let took = take_entry(log, used, table, count, at);
         match took {
             Took::Over => {
-                return Changed::Done(Used { len: at });
+                return Ok(Used { len: at });
             }
             Took::Full => {
                 clear(table);
-                return Changed::Refused(Refusal::TableFull);
+                return Err(Refusal::TableFull);
             }
             Took::Next { at: a, count: n } => {
                 at = a;
@@ -116,12 +116,12 @@ fn walk(log: &[u8], used: usize, table: &mut [u8]) -> Changed
 }
 
 // The used length that an opening left, as a length.
-fn used_length(r: Changed) -> Length
+fn used_length(r: Result<Used, Refusal>) -> Result<usize, Refusal>
     ensures { result ≡ used_length r }
 {
     match r {
-        Changed::Done(u) => Length::Done(u.len),
-        Changed::Refused(w) => Length::Refused(w),
+        Ok(u) => Ok(u.len),
+        Err(w) => Err(w),
     }
 }
 
@@ -133,10 +133,10 @@ pub extern "C" fn tjaldrum_open(log: &[u8], used: usize, table: &mut [u8]) -> u6
     clear(table);
     let ragged = table.len() % WORD_BYTES != 0;
     if ragged {
-        return told(Length::Refused(Refusal::BadRequest));
+        return told(Err(Refusal::BadRequest));
     }
     if !fits(log.len(), used, table.len() / WORD_BYTES) {
-        return told(Length::Refused(Refusal::BadRequest));
+        return told(Err(Refusal::BadRequest));
     }
     told(used_length(walk(log, used, table)))
 }

@@ -5,11 +5,12 @@ ghost use Rattle.bitcask.specs.keydir.Place.{order_at, place_of, Among, entered,
 ghost use Rattle.host.specs.Table.{words_in};
 
 use crate::slots::{SLOT_BYTES, insert, remove, replace, slot_at};
-use bitcask::keydir::{Found, Slot, key_of};
-use keycode::{Order, compare};
+use bitcask::keydir::{Slot, key_of};
+use keycode::compare;
+use std::cmp::Ordering;
 
 // The i-th slot's key against a key.
-fn order_at(log: &[u8], table: &[u8], count: usize, i: usize, key: &[u8]) -> Order
+fn order_at(log: &[u8], table: &[u8], count: usize, i: usize, key: &[u8]) -> Ordering
     requires { (i < count) × (slot_words * count ≤ length (words_in table.now)) }
     ensures { result ≡ order_at log.now key.now (slots_of count (words_in table.now)) i }
 {
@@ -17,7 +18,7 @@ fn order_at(log: &[u8], table: &[u8], count: usize, i: usize, key: &[u8]) -> Ord
 }
 
 // The place of a key among the first `count` slots, by halving.
-pub(crate) fn find(log: &[u8], table: &[u8], count: usize, key: &[u8]) -> Found
+pub(crate) fn find(log: &[u8], table: &[u8], count: usize, key: &[u8]) -> Result<usize, usize>
     requires { slot_words * count ≤ length (words_in table.now) }
     ensures { result ≡ place_of log.now key.now (slots_of count (words_in table.now)) }
 {
@@ -27,31 +28,31 @@ pub(crate) fn find(log: &[u8], table: &[u8], count: usize, key: &[u8]) -> Found
         let mid = low + (high - low) / 2;
         let o = order_at(log, table, count, mid, key);
         match o {
-            Order::Less => {
+            Ordering::Less => {
                 low = mid + 1;
             }
-            Order::Equal => {
-                return Found::At(mid);
+            Ordering::Equal => {
+                return Ok(mid);
             }
-            Order::Greater => {
+            Ordering::Greater => {
                 high = mid;
             }
         }
     }
-    Found::Before(low)
+    Err(low)
 }
 
 // A slot put in at a place that was found; gives the slots in use then. A new one that has no room leaves the table.
-pub(crate) fn enter(table: &mut [u8], count: usize, found: Found, s: Slot) -> usize
+pub(crate) fn enter(table: &mut [u8], count: usize, found: Result<usize, usize>, s: Slot) -> usize
     requires { (Among count found) × (slot_words * count ≤ length (words_in table.old)) }
     ensures { Becomes (words_in table.old) count (entered (words_in table.old) s found (slots_of count (words_in table.old))) (words_in table.new) result }
 {
     match found {
-        Found::At(i) => {
+        Ok(i) => {
             replace(table, count, i, s);
             count
         }
-        Found::Before(i) => {
+        Err(i) => {
             if table.len() / SLOT_BYTES <= count {
                 return count;
             }
@@ -62,15 +63,15 @@ pub(crate) fn enter(table: &mut [u8], count: usize, found: Found, s: Slot) -> us
 }
 
 // The slot at a place that was found taken out, if there is one; gives the slots in use then.
-pub(crate) fn leave(table: &mut [u8], count: usize, found: Found) -> usize
+pub(crate) fn leave(table: &mut [u8], count: usize, found: Result<usize, usize>) -> usize
     requires { (Among count found) × (slot_words * count ≤ length (words_in table.old)) }
     ensures { Becomes (words_in table.old) count (cut_at found (slots_of count (words_in table.old))) (words_in table.new) result }
 {
     match found {
-        Found::At(i) => {
+        Ok(i) => {
             remove(table, count, i);
             count - 1
         }
-        Found::Before(_) => count,
+        Err(_) => count,
     }
 }

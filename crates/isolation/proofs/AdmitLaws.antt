@@ -1,14 +1,16 @@
 -- A begin that finds room in log and table is admitted by its contract; what it lays down is so many bytes, and opens one version more.
 -- Assumes nothing.
+use Rattle.keycode.specs.declared.refusal.Refusal.{Refusal}
+use Rattle.bitcask.specs.declared.request.Used.{Used}
 use Prim.Native.Nat.{ℕ, suc, ◌+◌, ◌*◌, ◌-◌, ◌/◌, ◌^◌, ◌≤◌, ◌<◌, Ordering}
 use mathlib.Core.Path.{◌≡◌, refl, sym, ap, ◌∙◌, subst}
 use mathlib.Core.Bool.{false}
 use mathlib.Core.Logic.{◌≢◌}
-use mathlib.Core.Option.{Option, none, some}
 use mathlib.Core.List.{List, [], ◌∷◌}
 use native.Mathlib.Omega.{arith}
 use lib.ListN.{length}
 use borrow.Author.Tests.{le-leb, lt-leb, ne_eqb}
+use Rattle.std.specs.Prelude.{Ok, Option, None, Some, Result}
 use Rattle.keycode.specs.Limits.{max_open}
 use Rattle.keycode.specs.Buffer.{put}
 use Rattle.keycode.proofs.NumberLaws.{length-be}
@@ -17,7 +19,6 @@ use Rattle.keycode.proofs.Basics.{nope}
 use Rattle.bitcask.specs.entry.Entry.{Entry}
 use Rattle.bitcask.specs.keydir.Slots.{slot_words}
 use Rattle.bitcask.specs.keydir.Place.{count_of}
-use Rattle.bitcask.specs.declared.request.Changed.TheVariants.{Done}
 use Rattle.bitcask.specs.recovery.Recover.{map_of}
 use Rattle.bitcask.specs.recovery.Agree.{Agrees}
 use Rattle.bitcask.specs.change.Append.{State, size_all, bytes_all, after_all, append_answer}
@@ -62,7 +63,7 @@ module _ {w : World} {T : Calls} {m : Map} (k : Kept w T m) (a : Ready w) where
   laid_by = begin_plan (next_of (look m next_version)) (actives m)
 
   pub read : begin_by w.log w.used (length w.table) (next_at (map_of w.log w.used)) (active_at (map_of w.log w.used))
-      ≡ begin_with w.log w.used (length w.table) next (some (actives m))
+      ≡ begin_with w.log w.used (length w.table) next (Some (actives m))
   read = rw (k.map, next-pairs sorted k.fine, active_pairs k.fine)
 
   module _ (fresh : next ≢ 2 ^ 64 - 1) (few : length (actives m) < max_open) (room : w.used + size_all laid_by ≤ length w.log)
@@ -73,7 +74,7 @@ module _ {w : World} {T : Calls} {m : Map} (k : Kept w T m) (a : Ready w) where
     pub appends : Appends w.log w.used w.table laid_by left
     appends = sets-append w.log w.used w.table laid_by a (count_of w.table) refl room (plan-sets (length (actives m)) next (set_bytes (actives m))) slots
 
-    is_done_lem : begin_with w.log w.used (length w.table) next (some (actives m)) ≡ begun_with (w.used + size_all laid_by) (handle_of next false (actives m))
+    is_done_lem : begin_with w.log w.used (length w.table) next (Some (actives m)) ≡ begun_with (w.used + size_all laid_by) (handle_of next false (actives m))
     unfolding append_answer
     is_done_lem =
         rw (
@@ -89,8 +90,8 @@ module _ {w : World} {T : Calls} {m : Map} (k : Kept w T m) (a : Ready w) where
     ends_at : w.used + size_all laid_by ≡ w.used + size_all (plan_of (handle_of next false (actives m)))
     ends_at = ap (λ (es : List Entry). w.used + size_all es) (sym same)
 
-    len_of : {n : ℕ} {u : _} → Done (record { len = n }) ≡ Done u → u.len ≡ n
-    len_of e = cc
+    len_of : {n : ℕ} {u : Used} → ◌≡◌ {A = Result Used Refusal} (Ok (record { len = n })) (Ok u) → u.len ≡ n
+    len_of {n} {u} e = let z : ◌≡◌ {A = Used} (record { len = n }) u = cc in sym (ap (λ (y : Used). y.len) z)
 
     pub begin_admitted : Begins w.log w.used w.table (begun_with (w.used + size_all laid_by) (handle_of next false (actives m))) left.log left.table
     begin_admitted =
@@ -166,12 +167,12 @@ many-same r z (e ∷ m) = go (key_order (key_of r) (key_of e)) refl (many-same r
         omega (arith, many_cons r m, many_cons e m)
     go Ordering.gt q i = omega (arith, many_cons e m, many_cons e (Records.put key_order r m))
 
-many_new : (r : Rec) (m : Map) → look m (key_of r) ≡ none → many (Records.put key_order r m) ≡ one r + many m
+many_new : (r : Rec) (m : Map) → look m (key_of r) ≡ None → many (Records.put key_order r m) ≡ one r + many m
 unfolding Records.put
 many_new r [] n = many_cons r []
 many_new r (e ∷ m) n = go (key_order (key_of r) (key_of e)) refl (many_new r m)
   where
-    go : (o : Ordering) → key_order (key_of r) (key_of e) ≡ o → (look m (key_of r) ≡ none → many (Records.put key_order r m) ≡ one r + many m)
+    go : (o : Ordering) → key_order (key_of r) (key_of e) ≡ o → (look m (key_of r) ≡ None → many (Records.put key_order r m) ≡ one r + many m)
         → many (place o r e m (Records.put key_order r m)) ≡ one r + many (e ∷ m)
     go Ordering.lt q i = many_cons r (e ∷ m)
     go Ordering.eq q i = let f = order.same (key_of r) (key_of e) q in nope (cc (sym n ∙ ap (look (e ∷ m)) f ∙ look-here e m))
@@ -179,9 +180,9 @@ many_new r (e ∷ m) n = go (key_order (key_of r) (key_of e)) refl (many_new r m
         let p : key_of e ≢ key_of r = λ f. nope (cc (sym (order.itself (key_of r)) ∙ ap (key_order (key_of r)) (sym f) ∙ q)) in
         omega (arith, many_cons e m, many_cons e (Records.put key_order r m), i (sym (look-past e m p) ∙ n))
 
-some_none : (z : Option Rec) → is_some z ≡ false → z ≡ none
-some_none none e = refl
-some_none (some r) e = nope (cc)
+some_none : (z : Option Rec) → is_some z ≡ false → z ≡ None
+some_none None e = refl
+some_none (Some r) e = nope (cc)
 
 snap-other : (n v : ℕ) (s : List ℕ) (m : Map) → look (put_snap key_order n s m) (txn_active v) ≡ look m (txn_active v)
 snap-other n v [] m = refl
@@ -198,8 +199,8 @@ many-begun {T = T} {m = m} k =
     let n : ℕ = next_of (look m next_version) in
     let p : Map = Records.put key_order (next_rec (suc n)) m in
     let q : Map = put_snap key_order n (actives m) p in
-    let absent : look m (txn_active n) ≡ none = some_none (look m (txn_active n)) (run_open order k.run n ∙ ap is_open (run_unborn order k.run n (omega arith))) in
-    let gone : look q (txn_active n) ≡ none = snap-other n n (actives m) p ∙ look_put_other order (next_rec (suc n)) m (λ e. nope (cc)) ∙ absent in
+    let absent : look m (txn_active n) ≡ None = some_none (look m (txn_active n)) (run_open order k.run n ∙ ap is_open (run_unborn order k.run n (omega arith))) in
+    let gone : look q (txn_active n) ≡ None = snap-other n n (actives m) p ∙ look_put_other order (next_rec (suc n)) m (λ e. nope (cc)) ∙ absent in
     omega (arith, many_new (active_rec n) q gone, snap-same n (actives m) p, many-same (next_rec (suc n)) refl m)
 
 pub length_pairs : (m : Map) → length (pairs_in m) ≡ length m

@@ -3,7 +3,6 @@
 use Prim.Native.Nat.{ℕ, ◌+◌, ◌-◌, ◌/◌, ◌^◌, ◌≤◌, ◌<◌}
 use mathlib.Core.Path.{◌≡◌, refl, sym, ap, ◌∙◌}
 use mathlib.Core.Bool.{Bool, true, false}
-use mathlib.Core.Option.{some}
 use mathlib.Core.Logic.{◌≢◌, ◌⊎◌, inl, inr}
 use mathlib.Core.List.{List, ◌∷◌}
 use native.Mathlib.Decide.{dec_lt}
@@ -11,17 +10,17 @@ use native.Mathlib.Omega.{arith}
 use lib.Dec.{leb, eqb}
 use lib.ListN.{length}
 use borrow.Author.Tests.{le-leb, lt-leb}
+use Rattle.std.specs.Prelude.{Result, Ok, Err, Some}
+use Rattle.bitcask.specs.declared.request.Used.{Used}
+use Rattle.keycode.specs.declared.refusal.Refusal.{Refusal}
 use Rattle.keycode.specs.Tests.{pick}
 use Rattle.keycode.specs.Limits.{max_open}
 use Rattle.keycode.specs.declared.refusal.Refusal.TheVariants.{LogFull, TableFull, TooManyOpen, NoSuchVersion, VersionsSpent}
 use Rattle.bitcask.specs.keydir.Slots.{slot_words}
 use Rattle.keycode.specs.key.Keys.{next_version, txn_active_snapshot}
 use Rattle.bitcask.specs.entry.Entry.{Entry}
-use Rattle.bitcask.specs.declared.request.Changed.{Changed}
-use Rattle.bitcask.specs.declared.request.Changed.TheVariants as Change
 use Rattle.bitcask.specs.recovery.Recover.{map_of}
 use Rattle.bitcask.specs.recovery.Promises.{changed_number}
-use Rattle.bitcask.specs.declared.append.Check.TheVariants.{Fine}
 use Rattle.bitcask.specs.change.Append.{size_all, after_all, append_answer}
 use Rattle.mvcc.specs.declared.payload.SetAnswer.TheVariants as SetAnswers
 use Rattle.mvcc.specs.declared.handle.Handle.{Handle}
@@ -29,8 +28,6 @@ use Rattle.mvcc.specs.handle.Handles.{handle_of}
 use Rattle.mvcc.specs.declared.begun.Begun.{Begun}
 use Rattle.mvcc.specs.request.Given.{refused_by, begun_with}
 use Rattle.mvcc.specs.declared.report.Versions.{Versions}
-use Rattle.mvcc.specs.declared.report.Stated.{Stated}
-use Rattle.mvcc.specs.declared.report.Stated.TheVariants as Stating
 use Rattle.mvcc.specs.start.Plan.{begin_plan}
 use Rattle.mvcc.specs.start.Begins.{begun_by, begin_with}
 use Rattle.mvcc.specs.read_only.Answers.{reading_with}
@@ -66,22 +63,22 @@ append_not : (log : List ℕ) (used words : ℕ) (es : List Entry) → changed_n
 unfolding append_answer
 append_not log used words es = go (leb (used + size_all es) (length log)) (leb (length (after_all es (map_of log used))) (words / slot_words))
   where
-    go : (a b : Bool) → changed_number (pick a (pick b (Change.Done (record { len = used + size_all es })) (Change.Refused TableFull)) (Change.Refused LogFull)) ≡ 12 → ⊥
+    go : (a b : Bool) → changed_number (pick a (pick b (Ok (record { len = used + size_all es })) (Err TableFull)) (Err LogFull)) ≡ 12 → ⊥
     go true true e = omega arith
     go true false e = omega arith
     go false b e = omega arith
 
-begin_not : (log : List ℕ) (used words n : ℕ) (vs : List ℕ) → changed_number (begin_with log used words n (some vs)).answer ≡ 12 → ⊥
+begin_not : (log : List ℕ) (used words n : ℕ) (vs : List ℕ) → changed_number (begin_with log used words n (Some vs)).answer ≡ 12 → ⊥
 begin_not log used words n vs = go (eqb n (2 ^ 64 - 1)) (leb max_open (length vs)) (append_answer log used words (begin_plan n vs)) (append_not log used words (begin_plan n vs))
   where
-    go : (a b : Bool) (x : Changed) → (changed_number x ≡ 12 → ⊥)
+    go : (a b : Bool) (x : Result Used Refusal) → (changed_number x ≡ 12 → ⊥)
         → changed_number (pick a (refused_by VersionsSpent) (pick b (refused_by TooManyOpen) (begun_by x (handle_of n false vs)))).answer ≡ 12 → ⊥
     go true b x f e = omega arith
     go false true x f e = omega arith
-    go false false (Change.Done u) f e = omega arith
-    go false false (Change.Refused r) f e = f e
+    go false false (Ok u) f e = omega arith
+    go false false (Err r) f e = f e
 
-reading_not : (used n : ℕ) (vs : List ℕ) → changed_number (reading_with used n (some vs)).answer ≡ 12 → ⊥
+reading_not : (used n : ℕ) (vs : List ℕ) → changed_number (reading_with used n (Some vs)).answer ≡ 12 → ⊥
 reading_not used n vs = go (leb (length vs) max_open)
   where
     go : (b : Bool) → changed_number (pick b (begun_with used (handle_of n true vs)) (refused_by TooManyOpen)).answer ≡ 12 → ⊥
@@ -137,7 +134,7 @@ module _ {w : World} {T : Calls} {m : Map} (k : Kept w T m) (a : Ready w) where
 
   -- ---- status
 
-  pub stated : {r : Stated} → States w.log w.used w.table r → (s : Versions) × (r ≡ Stating.Done s) × Tells T s
+  pub stated : {r : Result Versions Refusal} → States w.log w.used w.table r → (s : Versions) × (r ≡ Ok s) × Tells T s
   stated b =
       let f = next_fits k.fine in (
         record { last = next_of (look m next_version) - 1; «open» = length (actives m) },
@@ -155,7 +152,7 @@ module _ {w : World} {T : Calls} {m : Map} (k : Kept w T m) (a : Ready w) where
   -- ---- resume with a handle that may be used
 
   module _ {h : Handle} (g : Given h T) (u : Usable T h) where
-    admitted : admits w.log w.used w.table h ≡ Fine
+    admitted : admits w.log w.used w.table h ≡ (Ok tt)
     admitted = checks_pass k (k.handles h g) a (usable_in k h u)
 
     pub resumed : {r : Begun} → Resumes w.log w.used w.table h r → r ≡ begun_with w.used h

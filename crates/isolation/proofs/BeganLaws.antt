@@ -3,12 +3,13 @@
 use Prim.Native.Nat.{ℕ, ◌+◌, ◌-◌, ◌^◌, ◌<◌, ◌≤◌}
 use mathlib.Core.Path.{◌≡◌, refl, sym, ap, ◌∙◌, subst}
 use mathlib.Core.Bool.{true, false}
-use mathlib.Core.Option.{Option, none, some}
 use mathlib.Core.List.{List, [], ◌∷◌}
 use native.Mathlib.Decide.{dec_lt}
 use native.Mathlib.Omega.{arith}
 use lib.Dec.{leb}
 use lib.ListN.{length}
+use Rattle.std.specs.Prelude.{Result, Ok, Err, Option, None, Some}
+use Rattle.keycode.specs.declared.refusal.Refusal.{Refusal}
 use Rattle.keycode.specs.Tests.{pick, if_done}
 use Rattle.keycode.specs.Buffer.{put}
 use Rattle.keycode.specs.Limits.{max_open}
@@ -17,8 +18,6 @@ use Rattle.keycode.proofs.Basics.{nope}
 use Rattle.keycode.specs.key.Keys.{next_version, txn_active_snapshot}
 use Rattle.bitcask.specs.keydir.Place.{All}
 use Rattle.bitcask.specs.declared.request.Used.{Used}
-use Rattle.bitcask.specs.declared.request.Changed.{Changed}
-use Rattle.bitcask.specs.declared.request.Changed.TheVariants.{Done, Refused}
 use Rattle.bitcask.specs.recovery.Recover.{map_of}
 use Rattle.bitcask.specs.recovery.Agree.{Agrees}
 use Rattle.bitcask.specs.recovery.Promises.{changed_number}
@@ -67,14 +66,14 @@ below-max n l d = go (dec_lt n (2 ^ 64 - 1))
 pub next_fits : {m : Map} → All Fine m → (0 < next_of (look m next_version)) × (next_of (look m next_version) < 2 ^ 64)
 next_fits {m} a = go (look m next_version) (look-says a next_version)
   where
-    go : (z : Option Rec) → ((r : Rec) → z ≡ some r → (key_of r ≡ next_version) × Fine r) → (0 < next_of z) × (next_of z < 2 ^ 64)
-    go none w = (omega arith, omega arith)
-    go (some (next_rec n)) w = (w (next_rec n) refl).1
-    go (some (active_rec v)) w = (omega arith, omega arith)
-    go (some (snap_rec v s)) w = (omega arith, omega arith)
-    go (some (wrote_rec v k)) w = (omega arith, omega arith)
-    go (some (ver_rec k v o)) w = (omega arith, omega arith)
-    go (some (plain_rec k b)) w = (omega arith, omega arith)
+    go : (z : Option Rec) → ((r : Rec) → z ≡ Some r → (key_of r ≡ next_version) × Fine r) → (0 < next_of z) × (next_of z < 2 ^ 64)
+    go None w = (omega arith, omega arith)
+    go (Some (next_rec n)) w = (w (next_rec n) refl).1
+    go (Some (active_rec v)) w = (omega arith, omega arith)
+    go (Some (snap_rec v s)) w = (omega arith, omega arith)
+    go (Some (wrote_rec v k)) w = (omega arith, omega arith)
+    go (Some (ver_rec k v o)) w = (omega arith, omega arith)
+    go (Some (plain_rec k b)) w = (omega arith, omega arith)
 
 abbrev Few : List ℕ → Type 0
 Few s = (length s ≤ max_open) × (rising s ≡ true) × Versions s
@@ -86,14 +85,14 @@ none-few = (omega arith, refl, λ i. omega arith)
 snap-fits : {m : Map} → All Fine m → (v : ℕ) → Few (snap_of (look m (txn_active_snapshot v)))
 snap-fits {m} a v = go (look m (txn_active_snapshot v)) (look-says a (txn_active_snapshot v))
   where
-    go : (z : Option Rec) → ((r : Rec) → z ≡ some r → (key_of r ≡ txn_active_snapshot v) × Fine r) → Few (snap_of z)
-    go none w = none-few
-    go (some (next_rec n)) w = none-few
-    go (some (active_rec v)) w = none-few
-    go (some (snap_rec v s)) w = let f = (w (snap_rec v s) refl).1 in (f.1, f.2, f.3)
-    go (some (wrote_rec v k)) w = none-few
-    go (some (ver_rec k v o)) w = none-few
-    go (some (plain_rec k b)) w = none-few
+    go : (z : Option Rec) → ((r : Rec) → z ≡ Some r → (key_of r ≡ txn_active_snapshot v) × Fine r) → Few (snap_of z)
+    go None w = none-few
+    go (Some (next_rec n)) w = none-few
+    go (Some (active_rec v)) w = none-few
+    go (Some (snap_rec v s)) w = let f = (w (snap_rec v s) refl).1 in (f.1, f.2, f.3)
+    go (Some (wrote_rec v k)) w = none-few
+    go (Some (ver_rec k v o)) w = none-few
+    go (Some (plain_rec k b)) w = none-few
 
 -- ---- begin
 
@@ -117,7 +116,7 @@ same_as_of e = cc
 at_entry : {m : Map} {T : Trace} {x y : Entry} → x ≡ y → H.Run key_order m (y ∷ T) → H.Run key_order m (x ∷ T)
 at_entry e r = rw e r
 
-begin_entry : (m : Map) (r : Begun) (u : Used) → r.answer ≡ Done u → r.handle ≡ handle_of (next_of (look m next_version)) false (actives m) → length (actives m) ≤ max_open
+begin_entry : (m : Map) (r : Begun) (u : Used) → r.answer ≡ Ok u → r.handle ≡ handle_of (next_of (look m next_version)) false (actives m) → length (actives m) ≤ max_open
     → on_done r.answer (begin_e (sight_of r.handle)) other_e ≡ begin_e (begin_handle m)
 begin_entry m r u e q l = rw e (ap begin_e (ap sight_of q ∙ sight_made (next_of (look m next_version)) false (actives m) l))
 
@@ -125,10 +124,10 @@ module _ {w : World} {T : Calls} {m : Map} (k : Kept w T m) (a : Ready w) where
   sorted : Sorted key_order m
   sorted = run-sorted order k.run
 
-  pub begin_at : (r : Begun) {log t : List ℕ} → Begins w.log w.used w.table r log t → r ≡ begin_with w.log w.used (length w.table) (next_of (look m next_version)) (some (actives m))
+  pub begin_at : (r : Begun) {log t : List ℕ} → Begins w.log w.used w.table r log t → r ≡ begin_with w.log w.used (length w.table) (next_of (look m next_version)) (Some (actives m))
   begin_at r b = b.answer a ∙ rw (k.map, next-pairs sorted k.fine, active_pairs k.fine)
 
-  pub made_begin : (r : Begun) (u : Used) {log t : List ℕ} → r.answer ≡ Done u → Begins w.log w.used w.table r log t
+  pub made_begin : (r : Begun) (u : Used) {log t : List ℕ} → r.answer ≡ Ok u → Begins w.log w.used w.table r log t
       → Kept (record { log = log; used = u.len; table = t }) (begins r ∷ T) (begin_map key_order m) × Agrees log u.len t
   unfolding trace_of
   made_begin r u {log} {t} e b =
@@ -154,9 +153,9 @@ module _ {w : World} {T : Calls} {m : Map} (k : Kept w T m) (a : Ready w) where
   pub begun : (r : Begun) {log t : List ℕ} → Begins w.log w.used w.table r log t → (m' : Map) × (Kept (changed_to w r.answer log t) (begins r ∷ T) m' × Ready (changed_to w r.answer log t))
   begun r {log} {t} b = go r.answer refl
     where
-      go : (x : Changed) → r.answer ≡ x → (m' : Map) × (Kept (changed_to w x log t) (begins r ∷ T) m' × Ready (changed_to w x log t))
-      go (Done u) e = (begin_map key_order m, made_begin r u e b)
-      go (Refused y) e = (
+      go : (x : Result Used Refusal) → r.answer ≡ x → (m' : Map) × (Kept (changed_to w x log t) (begins r ∷ T) m' × Ready (changed_to w x log t))
+      go (Ok u) e = (begin_map key_order m, made_begin r u e b)
+      go (Err y) e = (
         m,
         kept_refused k a
             (refused_same y _ _ (b.bytes ∙ ap (λ (i : ℕ). if_done i (put w.log w.used (bytes_all (plan_of r.handle))) w.log) (ap changed_number e)))
@@ -166,10 +165,10 @@ module _ {w : World} {T : Calls} {m : Map} (k : Kept w T m) (a : Ready w) where
 
   -- ---- read-only
 
-  pub reading_at : (r : Begun) → BeginsReading w.log w.used w.table r → r ≡ reading_with w.used (next_of (look m next_version)) (some (actives m))
+  pub reading_at : (r : Begun) → BeginsReading w.log w.used w.table r → r ≡ reading_with w.used (next_of (look m next_version)) (Some (actives m))
   reading_at r b = b.answer a ∙ rw (k.map, next-pairs sorted k.fine, active_pairs k.fine)
 
-  reading_entry : (r : Begun) (u : Used) → r.answer ≡ Done u → r.handle ≡ handle_of (next_of (look m next_version)) true (actives m) → length (actives m) ≤ max_open
+  reading_entry : (r : Begun) (u : Used) → r.answer ≡ Ok u → r.handle ≡ handle_of (next_of (look m next_version)) true (actives m) → length (actives m) ≤ max_open
       → on_done r.answer (read_e (sight_of r.handle)) other_e ≡ read_e (read_handle m)
   reading_entry r u e q l = rw e (ap read_e (ap sight_of q ∙ sight_made (next_of (look m next_version)) true (actives m) l))
 
@@ -177,10 +176,10 @@ module _ {w : World} {T : Calls} {m : Map} (k : Kept w T m) (a : Ready w) where
   unfolding trace_of
   made_reading r b = go r.answer refl
     where
-      go : (x : Changed) → r.answer ≡ x → Kept w (begins_reading r ∷ T) m
-      go (Refused y) e =
+      go : (x : Result Used Refusal) → r.answer ≡ x → Kept w (begins_reading r ∷ T) m
+      go (Err y) e =
           kept-other k (rw e) (λ h. given_cases (λ x i g. nope (cc)) (λ x i g. absurd (not_done y (sym (ap changed_number (ap (λ (z : Begun). z.answer) (same_reading i) ∙ e)) ∙ g.0))) (λ v x i g. nope (cc)) (λ g. g))
-      go (Done u) e =
+      go (Ok u) e =
           let n : ℕ = next_of (look m next_version) in
           let z : changed_number r.answer ≡ 0 = ap changed_number e in
           let s = reading_says w.used n (actives m) r (reading_at r b) z in
@@ -194,7 +193,7 @@ module _ {w : World} {T : Calls} {m : Map} (k : Kept w T m) (a : Ready w) where
 
   -- ---- as-of
 
-  as_of_entry : (v : ℕ) (r : Begun) (u : Used) → r.answer ≡ Done u → r.handle ≡ handle_of v true (snap_of (look m (txn_active_snapshot v)))
+  as_of_entry : (v : ℕ) (r : Begun) (u : Used) → r.answer ≡ Ok u → r.handle ≡ handle_of v true (snap_of (look m (txn_active_snapshot v)))
       → length (snap_of (look m (txn_active_snapshot v))) ≤ max_open → on_done r.answer (as_of_e v (sight_of r.handle)) other_e ≡ as_of_e v (as_of_handle v m)
   as_of_entry v r u e q l = rw e (ap (as_of_e v) (ap sight_of q ∙ sight_made v true (snap_of (look m (txn_active_snapshot v))) l))
 
@@ -208,10 +207,10 @@ module _ {w : World} {T : Calls} {m : Map} (k : Kept w T m) (a : Ready w) where
   unfolding trace_of
   made_as_of v r b = go r.answer refl
     where
-      go : (x : Changed) → r.answer ≡ x → Kept w (begins_as_of v r ∷ T) m
-      go (Refused y) e =
+      go : (x : Result Used Refusal) → r.answer ≡ x → Kept w (begins_as_of v r ∷ T) m
+      go (Err y) e =
           kept-other k (rw e) (λ h. given_cases (λ x i g. nope (cc)) (λ x i g. nope (cc)) (λ u x i g. absurd (not_done y (sym (ap changed_number (ap (λ (z : Begun). z.answer) (same_as_of i) ∙ e)) ∙ g.0))) (λ g. g))
-      go (Done u) e =
+      go (Ok u) e =
           let z : changed_number r.answer ≡ 0 = ap changed_number e in
           let S : List ℕ = snap_of (look m (txn_active_snapshot v)) in
           let t : SetRead = record { answer = SetAnswers.Fine; handle = handle_of v true S } in

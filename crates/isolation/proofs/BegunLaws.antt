@@ -3,18 +3,17 @@
 use Prim.Native.Nat.{ℕ, ◌-◌, ◌^◌, ◌<◌, ◌≤◌}
 use mathlib.Core.Path.{◌≡◌, refl, sym, ap, ◌∙◌, subst}
 use mathlib.Core.Bool.{Bool, true, false}
-use mathlib.Core.Option.{some}
 use mathlib.Core.List.{List}
 use lib.Dec.{leb, eqb}
 use native.Mathlib.Omega.{arith}
 use lib.ListN.{length}
 use borrow.Author.Tests.{leb-true, leb-false, eqb-false}
+use Rattle.std.specs.Prelude.{Result, Ok, Err, Some}
+use Rattle.bitcask.specs.declared.request.Used.{Used}
 use Rattle.keycode.specs.Tests.{pick}
 use Rattle.keycode.specs.Limits.{max_open}
 use Rattle.keycode.specs.declared.refusal.Refusal.{Refusal}
 use Rattle.keycode.specs.declared.refusal.Refusal.TheVariants.{TooManyOpen, NoSuchVersion, VersionsSpent}
-use Rattle.bitcask.specs.declared.request.Changed.{Changed}
-use Rattle.bitcask.specs.declared.request.Changed.TheVariants.{Done, Refused}
 use Rattle.bitcask.specs.recovery.Promises.{changed_number}
 use Rattle.mvcc.specs.declared.payload.SetAnswer.TheVariants as SetAnswers
 use Rattle.mvcc.specs.declared.payload.SetRead.{SetRead}
@@ -37,13 +36,13 @@ use Rattle.isolation.proofs.KeptLaws.{Sound}
 refused_not : {A : Type 0} (x : Refusal) (r : Begun) → r ≡ refused_by x → changed_number r.answer ≡ 0 → A
 refused_not x r e z = absurd (not_done x (sym (ap (λ (y : Begun). changed_number y.answer) e) ∙ z))
 
-pub begin_says : (log : List ℕ) (used words n : ℕ) (vs : List ℕ) (r : Begun) → r ≡ begin_with log used words n (some vs) → changed_number r.answer ≡ 0
+pub begin_says : (log : List ℕ) (used words n : ℕ) (vs : List ℕ) (r : Begun) → r ≡ begin_with log used words n (Some vs) → changed_number r.answer ≡ 0
     → (n ≡ 2 ^ 64 - 1 → ⊥) × (length vs < max_open) × (r.handle ≡ handle_of n false vs)
 begin_says log used words n vs r e z = go (eqb n (2 ^ 64 - 1)) refl (leb max_open (length vs)) refl e
   where
-    handled : (x : Changed) → r ≡ begun_by x (handle_of n false vs) → r.handle ≡ handle_of n false vs
-    handled (Done u) q = ap (λ (y : Begun). y.handle) q
-    handled (Refused y) q = refused_not y r q z
+    handled : (x : Result Used Refusal) → r ≡ begun_by x (handle_of n false vs) → r.handle ≡ handle_of n false vs
+    handled (Ok u) q = ap (λ (y : Begun). y.handle) q
+    handled (Err y) q = refused_not y r q z
 
     go : (a : Bool) → eqb n (2 ^ 64 - 1) ≡ a → (b : Bool) → leb max_open (length vs) ≡ b
         → r ≡ pick a (refused_by VersionsSpent) (pick b (refused_by TooManyOpen) (begun_by (append_answer log used words (begin_plan n vs)) (handle_of n false vs)))
@@ -52,7 +51,7 @@ begin_says log used words n vs r e z = go (eqb n (2 ^ 64 - 1)) refl (leb max_ope
     go false p true q f = refused_not TooManyOpen r f z
     go false p false q f = (eqb-false n (2 ^ 64 - 1) p, omega (arith, leb-false max_open (length vs) q), handled (append_answer log used words (begin_plan n vs)) f)
 
-pub reading_says : (used n : ℕ) (vs : List ℕ) (r : Begun) → r ≡ reading_with used n (some vs) → changed_number r.answer ≡ 0
+pub reading_says : (used n : ℕ) (vs : List ℕ) (r : Begun) → r ≡ reading_with used n (Some vs) → changed_number r.answer ≡ 0
     → (length vs ≤ max_open) × (r.handle ≡ handle_of n true vs)
 reading_says used n vs r e z = go (leb (length vs) max_open) refl e
   where

@@ -4,20 +4,18 @@ use mathlib.Core.Path.{◌≡◌, refl, sym, ap, ◌∙◌}
 use mathlib.Core.Bool.{Bool, true, false}
 use mathlib.Core.List.{List, [], ◌∷◌, ◌++◌}
 use lib.ListN.{length}
+use Rattle.std.specs.Prelude.{Result, Ok, Err, ⊤}
+use Rattle.bitcask.specs.declared.request.Used.{Used}
 use Rattle.keycode.specs.Tests.{pick, if_done}
 use Rattle.keycode.specs.Buffer.{put}
 use Rattle.keycode.specs.declared.refusal.Refusal.{Refusal}
 use Rattle.keycode.specs.declared.refusal.Refusal.TheVariants.{BadStore}
 use Rattle.bitcask.specs.entry.Entry.{Entry, del}
 use Rattle.bitcask.specs.keydir.Place.{count_of}
-use Rattle.bitcask.specs.declared.request.Changed.{Changed}
-use Rattle.bitcask.specs.declared.request.Changed.TheVariants as Change
 use Rattle.bitcask.specs.recovery.Map.{Pair}
 use Rattle.bitcask.specs.recovery.Recover.{map_of}
 use Rattle.bitcask.specs.recovery.Agree.{fit, Agrees}
 use Rattle.bitcask.specs.recovery.Promises.{changed_number}
-use Rattle.bitcask.specs.declared.append.Check.{Check}
-use Rattle.bitcask.specs.declared.append.Check.TheVariants.{Fine, Refused}
 use Rattle.bitcask.specs.change.Append.{size_all, bytes_all, after_all, append_answer}
 use Rattle.mvcc.specs.declared.handle.Handle.{Handle}
 use Rattle.mvcc.specs.handle.Handles.{sound_handle}
@@ -34,26 +32,26 @@ use Rattle.mvcc.proofs.undo.UndoAgreeLaws.{undos_dels}
 
 -- ---- an answer 0 passed each test
 
-pub else_done : (c : Check) (x r : Changed) → r ≡ or_else c x → changed_number r ≡ 0 → (c ≡ Fine) × (r ≡ x)
-else_done Fine x r e z = (refl, e)
-else_done (Refused y) x r e z = absurd (not_done y (sym (ap changed_number e) ∙ z))
+pub else_done : (c : Result ⊤ Refusal) (x r : Result Used Refusal) → r ≡ or_else c x → changed_number r ≡ 0 → (c ≡ (Ok tt)) × (r ≡ x)
+else_done (Ok tt) x r e z = (refl, e)
+else_done (Err y) x r e z = absurd (not_done y (sym (ap changed_number e) ∙ z))
 
-pick_done : (b : Bool) (x r : Changed) (y : Refusal) → r ≡ pick b x (Change.Refused y) → changed_number r ≡ 0 → r ≡ x
+pick_done : (b : Bool) (x r : Result Used Refusal) (y : Refusal) → r ≡ pick b x (Err y) → changed_number r ≡ 0 → r ≡ x
 pick_done true x r y e z = e
 pick_done false x r y e z = absurd (not_done y (sym (ap changed_number e) ∙ z))
 
-done_fine : (x r : Changed) → r ≡ x → changed_number r ≡ 0 → check_of x ≡ Fine
-done_fine (Change.Done u) r e z = refl
-done_fine (Change.Refused y) r e z = absurd (not_done y (sym (ap changed_number e) ∙ z))
+done_fine : (x r : Result Used Refusal) → r ≡ x → changed_number r ≡ 0 → check_of x ≡ (Ok tt)
+done_fine (Ok u) r e z = refl
+done_fine (Err y) r e z = absurd (not_done y (sym (ap changed_number e) ∙ z))
 
 -- ---- tombstones
 
-pub record Ended (log : List ℕ) (used : ℕ) (es : List Entry) (r : Changed) (log' : List ℕ) : Type 0 where
-  pub done : r ≡ Change.Done (record { len = used + size_all es })
+pub record Ended (log : List ℕ) (used : ℕ) (es : List Entry) (r : Result Used Refusal) (log' : List ℕ) : Type 0 where
+  pub done : r ≡ Ok (record { len = used + size_all es })
   pub room : used + size_all es ≤ length log
   pub map : map_of log' (used + size_all es) ≡ after_all es (map_of log used)
 
-module _ {log : List ℕ} {used : ℕ} {t : List ℕ} {es : List Entry} {r : Changed} {log' t' : List ℕ} (g : Agrees log used t) (d : Dels es) (w : Leaves log used t es r log' t')
+module _ {log : List ℕ} {used : ℕ} {t : List ℕ} {es : List Entry} {r : Result Used Refusal} {log' t' : List ℕ} (g : Agrees log used t) (d : Dels es) (w : Leaves log used t es r log' t')
     (e : r ≡ append_answer log used (length t) es) (z : changed_number r ≡ 0) where
   within : used + size_all es ≤ length log
   within = (answer_fine log used (length t) es (done_fine (append_answer log used (length t) es) r e z)).0
@@ -97,20 +95,20 @@ rollback_dels h m = go h.read_only
     go false = undos_dels h.version (writes_of h.version m) (active_key h)
 
 -- the first checks of a call with a handle, by the log's map
-abbrev pub admits : List ℕ → ℕ → List ℕ → Handle → Check
+abbrev pub admits : List ℕ → ℕ → List ℕ → Handle → Result ⊤ Refusal
 admits log used t h = admit_by (fit (length log) used (length t)) (sound_handle h) (open_in log used h)
 
-module _ {log : List ℕ} {used : ℕ} {t : List ℕ} {h : Handle} {r : Changed} {log' t' : List ℕ} (g : Agrees log used t) (z : changed_number r ≡ 0) where
-  pub commit_ended : Commits log used t h r log' t' → (admits log used t h ≡ Fine) × Ended log used (commit_plan h (map_of log used)) r log'
+module _ {log : List ℕ} {used : ℕ} {t : List ℕ} {h : Handle} {r : Result Used Refusal} {log' t' : List ℕ} (g : Agrees log used t) (z : changed_number r ≡ 0) where
+  pub commit_ended : Commits log used t h r log' t' → (admits log used t h ≡ (Ok tt)) × Ended log used (commit_plan h (map_of log used)) r log'
   unfolding commit_answer
   commit_ended w =
       let p = else_done (admits log used t h) (append_answer log used (length t) (commit_plan h (map_of log used))) r (w.answer g) z in
       (p.0, ended g (commit_dels h (map_of log used)) w.leaves p.1 z)
 
-  pub rollback_ended : RollsBack log used t h r log' t' → (admits log used t h ≡ Fine) × Ended log used (rollback_plan h (map_of log used)) r log'
+  pub rollback_ended : RollsBack log used t h r log' t' → (admits log used t h ≡ (Ok tt)) × Ended log used (rollback_plan h (map_of log used)) r log'
   unfolding rollback_answer undo_answer
   rollback_ended w =
       let a = append_answer log used (length t) (rollback_plan h (map_of log used)) in
       let b = pick h.read_only true (all_users (writes_of h.version (map_of log used))) in
-      let p = else_done (admits log used t h) (pick b a (Change.Refused BadStore)) r (w.answer g) z in
+      let p = else_done (admits log used t h) (pick b a (Err BadStore)) r (w.answer g) z in
       (p.0, ended g (rollback_dels h (map_of log used)) w.leaves (pick_done b a r BadStore p.1 z) z)

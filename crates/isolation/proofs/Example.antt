@@ -4,18 +4,17 @@
 use Prim.Native.Nat.{ℕ}
 use mathlib.Core.Path.{◌≡◌, refl, subst, ◌∙◌}
 use mathlib.Core.Bool.{true}
-use mathlib.Core.Option.{none, some}
 use mathlib.Core.Logic.{inl, inr}
 use mathlib.Core.List.{List, [], ◌∷◌}
 use native.Mathlib.Decide.{ℕ_discrete}
 use native.Mathlib.Omega.{arith}
 use lib.ListN.{length}
+use Rattle.std.specs.Prelude.{Result, Err, None, Some}
+use Rattle.bitcask.specs.declared.request.Used.{Used}
+use Rattle.keycode.specs.declared.refusal.Refusal.{Refusal}
+use Rattle.keycode.specs.declared.parts.Part.{Part}
 use Rattle.keycode.specs.declared.refusal.Refusal.TheVariants.{Absent, NotOpen, Conflict}
 use Rattle.keycode.proofs.Basics.{nope}
-use Rattle.bitcask.specs.declared.request.Changed.{Changed}
-use Rattle.bitcask.specs.declared.request.Changed.TheVariants.{Refused}
-use Rattle.bitcask.specs.declared.answers.Located.{Located}
-use Rattle.bitcask.specs.declared.answers.Located.TheVariants as Got
 use Rattle.bitcask.specs.change.Append.{append_answer}
 use Rattle.mvcc.specs.declared.handle.Handle.{Handle}
 use Rattle.mvcc.specs.handle.Handles.{handle_of}
@@ -43,23 +42,23 @@ abbrev pub T₃ : Calls
 T₃ = begins (begun_with 135 h₂) ∷ sets h₁ a x (done 76) ∷ T₁
 
 abbrev pub T₅ : Calls
-T₅ = opens (done 81) ∷ compacts (done 81) ∷ commits h₁ (done 172) ∷ sets h₂ a y (Refused Conflict) ∷ T₃
+T₅ = opens (done 81) ∷ compacts (done 81) ∷ commits h₁ (done 172) ∷ sets h₂ a y (Err Conflict) ∷ T₃
 
 abbrev pub T₆ : Calls
 T₆ = begins_as_of 3 (begun_with 140 back₃) ∷ begins_as_of 2 (begun_with 140 back₂) ∷ begins (begun_with 140 h₃) ∷ T₅
 
 abbrev pub T₇ : Calls
-T₇ = gets back₃ a found ∷ gets back₂ a (Got.Refused Absent) ∷ gets h₂ a (Got.Refused Absent) ∷ gets h₃ a found ∷ T₆
+T₇ = gets back₃ a found ∷ gets back₂ a (Err Absent) ∷ gets h₂ a (Err Absent) ∷ gets h₃ a found ∷ T₆
 
 -- ---- the run
 
 module _ {w w' : World} {T : Calls} (R : Run true w T) (c : Call) where
   -- a call with no handle
-  pub calls : handle_in c ≡ none → Step w c w' → Run true w' (c ∷ T)
+  pub calls : handle_in c ≡ None → Step w c w' → Run true w' (c ∷ T)
   calls e s = let f : Fair c T = λ h q. nope (cc) in called R f s
 
   -- a call with a handle that was given
-  pub calls_by : {h : Handle} → handle_in c ≡ some h → Given h T → Step w c w' → Run true w' (c ∷ T)
+  pub calls_by : {h : Handle} → handle_in c ≡ Some h → Given h T → Step w c w' → Run true w' (c ∷ T)
   calls_by {h} e g s = let f : Fair c T = λ j q. let z : h ≡ j = cc in subst (λ (i : Handle). Given i T) z g in called R f s
 
 -- opened; 1 begins
@@ -77,7 +76,7 @@ run₃ =
 -- 2's set of the key is refused; 1 commits; the log is compacted, and opened again
 pub run₅ : Run true (record { log = log₅; used = 81; table = table₅ }) T₅
 run₅ =
-    let r₃ = calls_by run₃ (sets h₂ a y (Refused Conflict)) refl (by_begin now (refl, refl)) (setting contracts.sets₂) in
+    let r₃ = calls_by run₃ (sets h₂ a y (Err Conflict)) refl (by_begin now (refl, refl)) (setting contracts.sets₂) in
     let r₄ = calls_by r₃ (commits h₁ (done 172)) refl (by_begin (later (later (later now))) (refl, refl)) (committing contracts.commits₁) in
     let r₅ = calls r₄ (compacts (done 81)) refl (compacting blank contracts.compacts₁) in
     opened r₅ vacant contracts.opens₂
@@ -93,18 +92,18 @@ run₆ =
 pub run₇ : Run true (record { log = log₆; used = 140; table = table₆ }) T₇
 run₇ =
     let r₆ = calls_by run₆ (gets h₃ a found) refl (by_begin (later (later now)) (refl, refl)) (getting contracts.gets₃) in
-    let r₇ = calls_by r₆ (gets h₂ a (Got.Refused Absent)) refl (by_begin (later (later (later (later (later (later (later (later now)))))))) (refl, refl)) (getting contracts.gets₂) in
-    let r₈ = calls_by r₇ (gets back₂ a (Got.Refused Absent)) refl (by_as_of (later (later (later now))) (refl, refl)) (getting contracts.gets_back₂) in
+    let r₇ = calls_by r₆ (gets h₂ a (Err Absent)) refl (by_begin (later (later (later (later (later (later (later (later now)))))))) (refl, refl)) (getting contracts.gets₂) in
+    let r₈ = calls_by r₇ (gets back₂ a (Err Absent)) refl (by_as_of (later (later (later now))) (refl, refl)) (getting contracts.gets_back₂) in
     calls_by r₈ (gets back₃ a found) refl (by_as_of (later (later (later now))) (refl, refl)) (getting contracts.gets_back₃)
 
 -- ---- what the theorems say of it: whatever answer a contract admits there
 
 -- 1's set of the key: no other transaction wrote it, and there is room
-pub first-sets : {r : Changed} {log t : List ℕ} → Writes log₁ 34 table₁ h₁ a (value_bytes (some x)) 1 r log t → r ≡ done 76
+pub first-sets : {r : Result Used Refusal} {log t : List ℕ} → Writes log₁ 34 table₁ h₁ a (value_bytes (Some x)) 1 r log t → r ≡ done 76
 unfolding trace_of events status last_write ℕ_discrete handle_of
-first-sets b = met (write_conflicts run₁ now (refl, refl) refl (omega arith) (some x) (omega arith) b)
+first-sets b = met (write_conflicts run₁ now (refl, refl) refl (omega arith) (Some x) (omega arith) b)
   where
-    met : {r : Changed} → Meets T₁ h₁ a (append_answer log₁ 34 (length table₁) (plan 1 a (value_bytes (some x)))) r → r ≡ done 76
+    met : {r : Result Used Refusal} → Meets T₁ h₁ a (append_answer log₁ 34 (length table₁) (plan 1 a (value_bytes (Some x)))) r → r ≡ done 76
     met (clashes c e) = absurd (c.writes refl)
     met (free n e) = e ∙ contracts.room₁
 
@@ -114,34 +113,34 @@ unfolding trace_of events status last_write key≟ handle_of
 clash = record { other = 1; differs = λ e. absurd (omega arith); writes = λ e. nope (cc); late = inl refl }
 
 -- 2's set of the key: Conflict
-pub second_conflicts : {r : Changed} {log t : List ℕ} → Writes log₃ 135 table₃ h₂ a (value_bytes (some y)) 1 r log t → r ≡ Refused Conflict
+pub second_conflicts : {r : Result Used Refusal} {log t : List ℕ} → Writes log₃ 135 table₃ h₂ a (value_bytes (Some y)) 1 r log t → r ≡ Err Conflict
 unfolding trace_of events status ℕ_discrete handle_of
-second_conflicts b = met (write_conflicts run₃ now (refl, refl) refl (omega arith) (some y) (omega arith) b)
+second_conflicts b = met (write_conflicts run₃ now (refl, refl) refl (omega arith) (Some y) (omega arith) b)
   where
-    met : {room r : Changed} → Meets T₃ h₂ a room r → r ≡ Refused Conflict
+    met : {room r : Result Used Refusal} → Meets T₃ h₂ a room r → r ≡ Err Conflict
     met (clashes c e) = e
     met (free n e) = absurd (n clash)
 
 -- 3's get: 1 had committed before 3 began
-pub third_gets : {r : Located} → Gets log₆ 140 table₆ h₃ a r → Shows log₆ r (some x)
+pub third_gets : {r : Result Part Refusal} → Gets log₆ 140 table₆ h₃ a r → Shows log₆ r (Some x)
 unfolding trace_of events status last_write laid key≟ handle_of
 third_gets b = get_shows run₆ (writer (later (later now)) (refl, refl) (λ k. refl)) (inr refl) (omega arith) b
 
 -- 2's get: 1 was open when 2 began, whatever came after
-pub second-gets : {r : Located} → Gets log₆ 140 table₆ h₂ a r → Shows log₆ r none
+pub second-gets : {r : Result Part Refusal} → Gets log₆ 140 table₆ h₂ a r → Shows log₆ r None
 unfolding trace_of events status last_write laid ℕ_discrete handle_of
 second-gets b = get_shows run₆ (writer (later (later (later (later (later (later (later now))))))) (refl, refl) (λ k. refl)) (inr refl) (omega arith) b
 
 -- the look back to 2 shows what 2 saw as it began, that to 3 what 3 saw
-pub back_second_gets : {r : Located} → Gets log₆ 140 table₆ back₂ a r → Shows log₆ r none
+pub back_second_gets : {r : Result Part Refusal} → Gets log₆ 140 table₆ back₂ a r → Shows log₆ r None
 unfolding trace_of events laid past ℕ_discrete handle_of
 back_second_gets b = get_shows run₆ (as_of (later now) (refl, refl) (λ e. absurd (omega arith)) (λ k. refl)) (inl refl) (omega arith) b
 
-pub back_third_gets : {r : Located} → Gets log₆ 140 table₆ back₃ a r → Shows log₆ r (some x)
+pub back_third_gets : {r : Result Part Refusal} → Gets log₆ 140 table₆ back₃ a r → Shows log₆ r (Some x)
 unfolding trace_of events last_write laid past key≟ handle_of
 back_third_gets b = get_shows run₆ (as_of now (refl, refl) (λ e. absurd (omega arith)) (λ k. refl)) (inl refl) (omega arith) b
 
 -- 1's handle, since its commit
-pub first-over : {r : Located} → Gets log₆ 140 table₆ h₁ a r → r ≡ Got.Refused NotOpen
+pub first-over : {r : Result Part Refusal} → Gets log₆ 140 table₆ h₁ a r → r ≡ Err NotOpen
 unfolding trace_of events status ℕ_discrete handle_of
 first-over b = over-gets run₆ (later (later (later (later (later (later (later (later (later now))))))))) (refl, refl) (λ e. nope (cc)) b

@@ -5,21 +5,19 @@
 use Prim.Native.Nat.{ℕ}
 use mathlib.Core.Path.{◌≡◌, refl, sym, ◌∙◌, subst}
 use mathlib.Core.Bool.{Bool, true, false}
-use mathlib.Core.Option.{Option, none, some}
 use mathlib.Core.Logic.{◌≢◌, inl, inr, ite, if_neg}
 use mathlib.Core.List.{List, [], ◌∷◌}
 use native.Mathlib.Decide.{ℕ_discrete}
 use native.Mathlib.Omega.{arith}
 use lib.ListN.{length}
+use Rattle.std.specs.Prelude.{Result, Err, Option, None, Some}
+use Rattle.bitcask.specs.declared.request.Used.{Used}
+use Rattle.keycode.specs.declared.refusal.Refusal.{Refusal}
+use Rattle.keycode.specs.declared.parts.Part.{Part}
+use Rattle.bitcask.specs.declared.answers.KeyValue.{KeyValue}
 use Rattle.keycode.specs.declared.refusal.Refusal.TheVariants.{Absent, NotOpen, LogFull, TableFull}
 use Rattle.keycode.proofs.Basics.{nope}
-use Rattle.bitcask.specs.declared.request.Changed.{Changed}
-use Rattle.bitcask.specs.declared.request.Changed.TheVariants.{Refused}
 use Rattle.bitcask.specs.recovery.Promises.{Opens}
-use Rattle.bitcask.specs.declared.answers.Located.{Located}
-use Rattle.bitcask.specs.declared.answers.Located.TheVariants as Got
-use Rattle.bitcask.specs.declared.answers.Stepped.{Stepped}
-use Rattle.bitcask.specs.declared.answers.Stepped.TheVariants as Step
 use Rattle.bitcask.specs.declared.answers.Bound.TheVariants.{Unbounded}
 use Rattle.bitcask.specs.read.Ranks.{admitted}
 use Rattle.bitcask.specs.change.Append.{append_answer}
@@ -47,13 +45,13 @@ use Rattle.isolation.proofs.Isolation.{open_answers, get_shows, scan_shows, writ
 -- ---- the calls, the latest first
 
 abbrev pub T₈ : Calls
-T₈ = scans h₃ Unbounded [] Unbounded [] true a (Step.Refused Absent) ∷ scans h₃ Unbounded [] Unbounded [] false [] pair_a ∷ begins_reading (begun_with 140 r₄) ∷ T₇
+T₈ = scans h₃ Unbounded [] Unbounded [] true a (Err Absent) ∷ scans h₃ Unbounded [] Unbounded [] false [] pair_a ∷ begins_reading (begun_with 140 r₄) ∷ T₇
 
 abbrev pub T₉ : Calls
-T₉ = deletes h₃ a (done 164) ∷ compacts (done 123) ∷ deletes h₃ a (Refused LogFull) ∷ T₈
+T₉ = deletes h₃ a (done 164) ∷ compacts (done 123) ∷ deletes h₃ a (Err LogFull) ∷ T₈
 
 abbrev pub T₁₀ : Calls
-T₁₀ = opens (done 221) ∷ opens (Refused TableFull) ∷ rolls_back h₃ (done 221) ∷ sets h₂ b y (Refused TableFull) ∷ T₉
+T₁₀ = opens (done 221) ∷ opens (Err TableFull) ∷ rolls_back h₃ (done 221) ∷ sets h₂ b y (Err TableFull) ∷ T₉
 
 abbrev pub T₁₁ : Calls
 T₁₁ = checks true ∷ begins_as_of 0 (begun_with 221 back₀) ∷ T₁₀
@@ -72,7 +70,7 @@ pub run₈ : Run true (record { log = log₆; used = 140; table = table₆ }) T�
 run₈ =
     let r₁ = calls run₇ (begins_reading (begun_with 140 r₄)) refl (beginning_reading laters.reads₄) in
     let r₂ = calls_by r₁ (scans h₃ Unbounded [] Unbounded [] false [] pair_a) refl (by_begin (later third₇) (refl, refl)) (scanning laters.scans₃) in
-    calls_by r₂ (scans h₃ Unbounded [] Unbounded [] true a (Step.Refused Absent)) refl (by_begin (later (later third₇)) (refl, refl)) (scanning laters.scans_on₃)
+    calls_by r₂ (scans h₃ Unbounded [] Unbounded [] true a (Err Absent)) refl (by_begin (later (later third₇)) (refl, refl)) (scanning laters.scans_on₃)
 
 third₈ : After (begins (begun_with 140 h₃) ∷ T₅) T₈
 third₈ = later (later (later third₇))
@@ -80,7 +78,7 @@ third₈ = later (later (later third₇))
 -- 3's delete finds no room in the log; compacted into a larger buffer, it is done
 pub run₉ : Run true (record { log = log₈; used = 164; table = table₈ }) T₉
 run₉ =
-    let r₁ = calls_by run₈ (deletes h₃ a (Refused LogFull)) refl (by_begin third₈ (refl, refl)) (deleting laters.deletes_full) in
+    let r₁ = calls_by run₈ (deletes h₃ a (Err LogFull)) refl (by_begin third₈ (refl, refl)) (deleting laters.deletes_full) in
     let r₂ = calls r₁ (compacts (done 123)) refl (compacting wide laters.compacts₂) in
     calls_by r₂ (deletes h₃ a (done 164)) refl (by_begin (later (later third₈)) (refl, refl)) (deleting laters.deletes₃)
 
@@ -93,7 +91,7 @@ third₉ = later (later (later third₈))
 -- 2's set of another key finds no free slot; 3 rolls back; an opening with one slot is refused, and one with eight done
 pub run₁₀ : Run true (record { log = log₉; used = 221; table = table₉ }) T₁₀
 run₁₀ =
-    let r₁ = calls_by run₉ (sets h₂ b y (Refused TableFull)) refl (by_begin second₉ (refl, refl)) (setting laters.sets_full) in
+    let r₁ = calls_by run₉ (sets h₂ b y (Err TableFull)) refl (by_begin second₉ (refl, refl)) (setting laters.sets_full) in
     let r₂ = calls_by r₁ (rolls_back h₃ (done 221)) refl (by_begin (later third₉) (refl, refl)) (rolling_back laters.rolls_back₃) in
     opened (opened r₂ narrow laters.opens_narrow) vacant laters.opens₃
 
@@ -109,12 +107,12 @@ run₁₁ =
 abbrev pub third : Key → Option Bytes
 third k = over (last_write (meaning T₇) 3 k) (laid (meaning T₅) k)
 
-pub third_sees : third a ≡ some x
+pub third_sees : third a ≡ Some x
 unfolding trace_of events last_write laid key≟ ℕ_discrete handle_of
 third_sees = refl
 
 -- its scan shows the first of those keys
-pub third_scans : {r : Stepped} → Scans log₆ 140 table₆ h₃ Unbounded [] Unbounded [] false [] r → ShowsFirst third (admitted Unbounded [] Unbounded [] false []) log₆ r
+pub third_scans : {r : Result KeyValue Refusal} → Scans log₆ 140 table₆ h₃ Unbounded [] Unbounded [] false [] r → ShowsFirst third (admitted Unbounded [] Unbounded [] false []) log₆ r
 unfolding trace_of events status ℕ_discrete handle_of
 third_scans b = scan_shows run₇ (writer third₇ (refl, refl) (λ k. refl)) (inr refl) Unbounded [] Unbounded [] false [] refl b
 
@@ -127,16 +125,16 @@ third_free c = go c.other c.writes c.late (ℕ_discrete 1 c.other)
     late (inl e) = nope (cc)
     late (inr (e, n)) = n refl
 
-    go : (o : ℕ) → last_write (meaning T₈) o a ≢ none → Late (meaning T₈) 3 o → Dec (1 ≡ o) → ⊥
+    go : (o : ℕ) → last_write (meaning T₈) o a ≢ None → Late (meaning T₈) 3 o → Dec (1 ≡ o) → ⊥
     go o w l (yes e) = late (subst (λ (i : ℕ). Late (meaning T₈) 3 i) (sym e) l)
-    go o w l (no n) = w (if_neg (ℕ_discrete 1 o) n (some (some x)) none)
+    go o w l (no n) = w (if_neg (ℕ_discrete 1 o) n (Some (Some x)) None)
 
 -- so that its delete meets 7, for want of room in the log
-pub third_full : {r : Changed} {log t : List ℕ} → Writes log₆ 140 table₆ h₃ a (value_bytes none) 0 r log t → r ≡ Refused LogFull
+pub third_full : {r : Result Used Refusal} {log t : List ℕ} → Writes log₆ 140 table₆ h₃ a (value_bytes None) 0 r log t → r ≡ Err LogFull
 unfolding trace_of events status ℕ_discrete handle_of
-third_full b = met (write_conflicts run₈ third₈ (refl, refl) refl (omega arith) none (omega arith) b)
+third_full b = met (write_conflicts run₈ third₈ (refl, refl) refl (omega arith) None (omega arith) b)
   where
-    met : {r : Changed} → Meets T₈ h₃ a (append_answer log₆ 140 (length table₆) (plan 3 a (value_bytes none))) r → r ≡ Refused LogFull
+    met : {r : Result Used Refusal} → Meets T₈ h₃ a (append_answer log₆ 140 (length table₆) (plan 3 a (value_bytes None))) r → r ≡ Err LogFull
     met (clashes c e) = absurd (third_free c)
     met (free n e) = e ∙ laters.room_full
 
@@ -145,30 +143,30 @@ ite_same (yes e) z = refl
 ite_same (no n) z = refl
 
 -- nobody had written the other key: 2's set of it meets 8, for want of slots in the table
-pub second-full : {r : Changed} {log t : List ℕ} → Writes log₈ 164 table₈ h₂ b (value_bytes (some y)) 1 r log t → r ≡ Refused TableFull
+pub second-full : {r : Result Used Refusal} {log t : List ℕ} → Writes log₈ 164 table₈ h₂ b (value_bytes (Some y)) 1 r log t → r ≡ Err TableFull
 unfolding trace_of events status last_write key≟ ℕ_discrete handle_of
-second-full w = met (write_conflicts run₉ second₉ (refl, refl) refl (omega arith) (some y) (omega arith) w)
+second-full w = met (write_conflicts run₉ second₉ (refl, refl) refl (omega arith) (Some y) (omega arith) w)
   where
-    met : {r : Changed} → Meets T₉ h₂ b (append_answer log₈ 164 (length table₈) (plan 2 b (value_bytes (some y)))) r → r ≡ Refused TableFull
-    met (clashes c e) = absurd (c.writes (ite_same (ℕ_discrete 3 c.other) _ ∙ ite_same (ℕ_discrete 1 c.other) none))
+    met : {r : Result Used Refusal} → Meets T₉ h₂ b (append_answer log₈ 164 (length table₈) (plan 2 b (value_bytes (Some y)))) r → r ≡ Err TableFull
+    met (clashes c e) = absurd (c.writes (ite_same (ℕ_discrete 3 c.other) _ ∙ ite_same (ℕ_discrete 1 c.other) None))
     met (free n e) = e ∙ laters.slots_full
 
 -- the reader sees what 1 left, whatever 3 did; as-of 0 sees nothing
-pub reader-gets : {r : Located} → Gets log₉ 221 table₉ r₄ a r → Shows log₉ r (some x)
+pub reader-gets : {r : Result Part Refusal} → Gets log₉ 221 table₉ r₄ a r → Shows log₉ r (Some x)
 unfolding trace_of events last_write laid key≟ ℕ_discrete handle_of
 reader-gets g = get_shows run₁₁ (reader (later (later (later (later (later (later (later (later (later (later (later now))))))))))) (refl, refl) (λ k. refl)) (inl refl) (omega arith) g
 
-pub zero-gets : {r : Located} → Gets log₉ 221 table₉ back₀ a r → Shows log₉ r none
+pub zero-gets : {r : Result Part Refusal} → Gets log₉ 221 table₉ back₀ a r → Shows log₉ r None
 unfolding handle_of
 zero-gets g = get_shows run₁₁ (as_of_none (later now) (refl, refl) (λ k. refl)) (inl refl) (omega arith) g
 
 -- 3's handle, since its rollback
-pub third_over : {r : Located} → Gets log₉ 221 table₉ h₃ a r → r ≡ Got.Refused NotOpen
+pub third_over : {r : Result Part Refusal} → Gets log₉ 221 table₉ h₃ a r → r ≡ Err NotOpen
 unfolding trace_of events status ℕ_discrete handle_of
 third_over g = over-gets run₁₁ (later (later (later (later (later (later third₉)))))) (refl, refl) (λ e. nope (cc)) g
 
 -- an opening with one slot: 8
-pub narrow_opens : {r : Changed} {t : List ℕ} → Opens log₉ 221 narrow r t → r ≡ Refused TableFull
+pub narrow_opens : {r : Result Used Refusal} {t : List ℕ} → Opens log₉ 221 narrow r t → r ≡ Err TableFull
 narrow_opens o = open_answers run₁₁ narrow o ∙ sym (open_answers run₁₁ narrow laters.opens_narrow)
 
 -- the yes/no

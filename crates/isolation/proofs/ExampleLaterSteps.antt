@@ -3,10 +3,13 @@
 use Prim.Native.Nat.{ℕ}
 use mathlib.Core.Path.{◌≡◌, refl}
 use mathlib.Core.Bool.{true, false}
-use mathlib.Core.Option.{none, some}
 use mathlib.Core.List.{List, [], ◌∷◌}
 use native.Mathlib.Omega.{arith}
 use lib.ListN.{length, drop, replicate}
+use Rattle.std.specs.Prelude.{Err, Result, Ok, None, Some}
+use Rattle.keycode.specs.declared.parts.Part.{Part}
+use Rattle.keycode.specs.declared.refusal.Refusal.{Refusal}
+use Rattle.bitcask.specs.declared.answers.KeyValue.{KeyValue}
 use Rattle.keycode.specs.Buffer.{put}
 use Rattle.keycode.specs.Number.{be, num}
 use Rattle.keycode.specs.Order.{compare_bytes, compare_nat}
@@ -19,15 +22,10 @@ use Rattle.bitcask.specs.entry.Length.{length_of}
 use Rattle.bitcask.specs.entry.Reading.{word_at, head_at, entry_at}
 use Rattle.bitcask.specs.keydir.Slots.{table_of, words_of, key_of, value_of, insert_at, replace_at, remove_at}
 use Rattle.bitcask.specs.keydir.Place.{place_in}
-use Rattle.bitcask.specs.declared.request.Changed.TheVariants.{Refused}
 use Rattle.bitcask.specs.recovery.Map.{look_in, put_in, cut_in, after, pairs_of, live_in}
 use Rattle.bitcask.specs.recovery.Recover.{items, items_of, ends, step, fold, recovered, view, map_of, step_in, run}
 use Rattle.bitcask.specs.recovery.Agree.{fit}
 use Rattle.bitcask.specs.recovery.Promises.{Opens, open_answer, open_table}
-use Rattle.bitcask.specs.declared.answers.Located.{Located}
-use Rattle.bitcask.specs.declared.answers.Located.TheVariants as Got
-use Rattle.bitcask.specs.declared.answers.Stepped.{Stepped}
-use Rattle.bitcask.specs.declared.answers.Stepped.TheVariants as Step
 use Rattle.bitcask.specs.declared.answers.Bound.TheVariants.{Unbounded}
 use Rattle.bitcask.specs.read.Ranks.{admitted}
 use Rattle.bitcask.specs.change.Append.{size_all, bytes_all, after_all, append_answer}
@@ -73,11 +71,11 @@ abbrev pub back₀ : Handle
 back₀ = handle_of 0 true []
 
 -- where the key and its value stand, and where the value stands at last
-abbrev pub pair_a : Stepped
-pair_a = Step.Next (record { at = 68; len = 1 }) (record { at = 80; len = 1 })
+abbrev pub pair_a : Result KeyValue Refusal
+pair_a = Ok (record { key = (record { at = 68; len = 1 }); value = (record { at = 80; len = 1 }) })
 
-abbrev pub found_later : Located
-found_later = Got.At (record { at = 122; len = 1 })
+abbrev pub found_later : Result Part Refusal
+found_later = Ok (record { at = 122; len = 1 })
 
 unfoldable pub wide : List ℕ
 wide = replicate {A = ℕ} 300 0
@@ -130,18 +128,18 @@ table₉ = 1 ∷ 1 ∷ 8 ∷ 18 ∷ 9 ∷ 0 ∷ 52 ∷ 9 ∷ 8 ∷ 77 ∷ 9 ∷ 
 pub record Laters : Type 0 where
   pub reads₄ : BeginsReading log₆ 140 table₆ (begun_with 140 r₄)
   pub scans₃ : Scans log₆ 140 table₆ h₃ Unbounded [] Unbounded [] false [] pair_a
-  pub scans_on₃ : Scans log₆ 140 table₆ h₃ Unbounded [] Unbounded [] true a (Step.Refused Absent)
-  pub deletes_full : Writes log₆ 140 table₆ h₃ a (value_bytes none) 0 (Refused LogFull) log₆ table₆
-  pub room_full : append_answer log₆ 140 (length table₆) (plan 3 a (value_bytes none)) ≡ Refused LogFull
+  pub scans_on₃ : Scans log₆ 140 table₆ h₃ Unbounded [] Unbounded [] true a (Err Absent)
+  pub deletes_full : Writes log₆ 140 table₆ h₃ a (value_bytes None) 0 (Err LogFull) log₆ table₆
+  pub room_full : append_answer log₆ 140 (length table₆) (plan 3 a (value_bytes None)) ≡ Err LogFull
   pub compacts₂ : Compacts log₆ 140 table₆ wide (done 123) table₇ log₇
-  pub deletes₃ : Writes log₇ 123 table₇ h₃ a (value_bytes none) 0 (done 164) log₈ table₈
-  pub sets_full : Writes log₈ 164 table₈ h₂ b (value_bytes (some y)) 1 (Refused TableFull) log₈ table₈
-  pub slots_full : append_answer log₈ 164 (length table₈) (plan 2 b (value_bytes (some y))) ≡ Refused TableFull
+  pub deletes₃ : Writes log₇ 123 table₇ h₃ a (value_bytes None) 0 (done 164) log₈ table₈
+  pub sets_full : Writes log₈ 164 table₈ h₂ b (value_bytes (Some y)) 1 (Err TableFull) log₈ table₈
+  pub slots_full : append_answer log₈ 164 (length table₈) (plan 2 b (value_bytes (Some y))) ≡ Err TableFull
   pub rolls_back₃ : RollsBack log₈ 164 table₈ h₃ (done 221) log₉ table₉
-  pub opens_narrow : Opens log₉ 221 narrow (Refused TableFull) narrow
+  pub opens_narrow : Opens log₉ 221 narrow (Err TableFull) narrow
   pub opens₃ : Opens log₉ 221 vacant (done 221) table₉
   pub as_of₀ : BeginsAsOf log₉ 221 table₉ 0 (begun_with 221 back₀)
-  pub gets_back₀ : Gets log₉ 221 table₉ back₀ a (Got.Refused Absent)
+  pub gets_back₀ : Gets log₉ 221 table₉ back₀ a (Err Absent)
   pub gets₄ : Gets log₉ 221 table₉ r₄ a found_later
   pub checks₃ : Tells log₉ 221 table₉ true
 

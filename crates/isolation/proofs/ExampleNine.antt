@@ -4,11 +4,13 @@ use Prim.Native.Nat.{ℕ, zero, suc, ◌+◌, ◌*◌, ◌-◌, ◌/◌, ◌^◌
 use mathlib.Core.Path.{◌≡◌, refl, sym, ap, ◌∙◌, subst}
 use mathlib.Core.Bool.{true, false}
 use mathlib.Core.Logic.{◌≢◌}
-use mathlib.Core.Option.{some}
 use mathlib.Core.List.{List, [], ◌∷◌}
 use native.Mathlib.Omega.{arith}
 use lib.ListN.{length, replicate, length-replicate}
 use borrow.Author.Tests.{le-leb, ne_eqb}
+use Rattle.std.specs.Prelude.{Result, Ok, Some}
+use Rattle.bitcask.specs.declared.request.Used.{Used}
+use Rattle.keycode.specs.declared.refusal.Refusal.{Refusal}
 use Rattle.keycode.specs.Limits.{max_open}
 use Rattle.keycode.proofs.BufferLaws.{length-put as length-buffer}
 use Rattle.keycode.specs.declared.refusal.Refusal.TheVariants.{TooManyOpen}
@@ -17,8 +19,6 @@ use Rattle.keycode.proofs.Basics.{nope}
 use Rattle.bitcask.specs.entry.Entry.{Entry}
 use Rattle.bitcask.specs.keydir.Slots.{slot_words, table_of, words_of}
 use Rattle.bitcask.specs.keydir.Place.{count_of}
-use Rattle.bitcask.specs.declared.request.Changed.{Changed}
-use Rattle.bitcask.specs.declared.request.Changed.TheVariants.{Done}
 use Rattle.bitcask.specs.recovery.Recover.{items, items_of, ends, run, map_of}
 use Rattle.bitcask.specs.recovery.Promises.{Opens, open_answer, open_table}
 use Rattle.bitcask.specs.recovery.Agree.{fit}
@@ -135,7 +135,7 @@ blank = replicate {A = ℕ} 3000 0
 vacant : List ℕ
 vacant = replicate {A = ℕ} 144 0
 
-opens-blank : Opens blank 0 vacant (Done (record { len = 0 })) vacant
+opens-blank : Opens blank 0 vacant (Ok (record { len = 0 })) vacant
 unfolding blank vacant open_answer open_table fit items items_of ends run table_of words_of
 opens-blank = record { answer = refl; table = refl }
 
@@ -152,7 +152,7 @@ idle =
     let e : H.records ≡ [] = pairs-none H.records (sym H.kept.map ∙ empty-map blank) in
     record {
       world = record { log = blank; used = 0; table = vacant };
-      past = opens (Done (record { len = 0 })) ∷ [];
+      past = opens (Ok (record { len = 0 })) ∷ [];
       records = H.records;
       run = R;
       kept = H.kept;
@@ -175,7 +175,7 @@ sixteen = busy 16 (omega arith)
 -- ---- one more begin
 
 module _ (b : Busy 16) where
-  starts_none : {r : Begun} {room : Changed} → Starts (next_of (look b.records next_version)) (actives b.records) room r → r ≡ refused_by TooManyOpen
+  starts_none : {r : Begun} {room : Result Used Refusal} → Starts (next_of (look b.records next_version)) (actives b.records) room r → r ≡ refused_by TooManyOpen
   starts_none (spent e q) = absurd (omega (arith, e, b.next))
   starts_none (many-open n e q) = q
   starts_none (starts n l q) = absurd (omega (arith, l, b.count))
@@ -183,7 +183,7 @@ module _ (b : Busy 16) where
   pub begin_nine : {r : Begun} {log t : List ℕ} → Begins b.world.log b.world.used b.world.table r log t → r ≡ refused_by TooManyOpen
   begin_nine c = starts_none (begin_starts b.kept b.ready c)
 
-  refused : begin_with b.world.log b.world.used (length b.world.table) (next_of (look b.records next_version)) (some (actives b.records)) ≡ refused_by TooManyOpen
+  refused : begin_with b.world.log b.world.used (length b.world.table) (next_of (look b.records next_version)) (Some (actives b.records)) ≡ refused_by TooManyOpen
   refused =
       let n : next_of (look b.records next_version) ≢ 2 ^ 64 - 1 = λ e. omega (arith, b.next) in
       let l : max_open ≤ length (actives b.records) = omega (arith, b.count) in

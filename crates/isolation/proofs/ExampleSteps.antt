@@ -3,10 +3,12 @@
 use Prim.Native.Nat.{ℕ}
 use mathlib.Core.Path.{◌≡◌, refl, subst}
 use mathlib.Core.Bool.{true, false}
-use mathlib.Core.Option.{some}
 use mathlib.Core.List.{List, [], ◌∷◌}
 use native.Mathlib.Omega.{arith}
 use lib.ListN.{length, drop, replicate}
+use Rattle.std.specs.Prelude.{Result, Ok, Err, Some}
+use Rattle.keycode.specs.declared.refusal.Refusal.{Refusal}
+use Rattle.keycode.specs.declared.parts.Part.{Part}
 use Rattle.keycode.specs.Buffer.{put}
 use Rattle.keycode.specs.Number.{be, num}
 use Rattle.keycode.specs.Order.{compare_bytes, compare_nat}
@@ -20,14 +22,10 @@ use Rattle.bitcask.specs.entry.Reading.{word_at, head_at, entry_at}
 use Rattle.bitcask.specs.keydir.Slots.{table_of, words_of, key_of, value_of, insert_at, replace_at, remove_at}
 use Rattle.bitcask.specs.keydir.Place.{place_in}
 use Rattle.bitcask.specs.declared.request.Used.{Used}
-use Rattle.bitcask.specs.declared.request.Changed.{Changed}
-use Rattle.bitcask.specs.declared.request.Changed.TheVariants.{Done, Refused}
 use Rattle.bitcask.specs.recovery.Map.{look_in, put_in, cut_in, after, pairs_of, live_in}
 use Rattle.bitcask.specs.recovery.Recover.{items, items_of, ends, step, fold, recovered, view, map_of, step_in, run}
 use Rattle.bitcask.specs.recovery.Agree.{fit}
 use Rattle.bitcask.specs.recovery.Promises.{Opens, open_answer, open_table}
-use Rattle.bitcask.specs.declared.answers.Located.{Located}
-use Rattle.bitcask.specs.declared.answers.Located.TheVariants as Got
 use Rattle.bitcask.specs.change.Append.{size_all, bytes_all, after_all, append_answer}
 use Rattle.bitcask.specs.compaction.Compaction.{entries_of}
 use Rattle.bitcask.specs.compaction.Promises.{Compacts}
@@ -55,8 +53,8 @@ use Rattle.mvcc.specs.write.Promises.{Writes, write_answer, may_write}
 use Rattle.mvcc.specs.end.Plans.{commit_plan, writes_of}
 use Rattle.mvcc.specs.end.Promises.{Commits, commit_answer, among}
 
-abbrev pub done : ℕ → Changed
-done n = Done (record { len = n })
+abbrev pub done : ℕ → Result Used Refusal
+done n = Ok (record { len = n })
 
 -- ---- what the calls are lent and given: a key, two values, and the handles of versions 1, 2 and 3 and of two looks back
 
@@ -85,8 +83,8 @@ abbrev pub back₃ : Handle
 back₃ = handle_of 3 true (2 ∷ [])
 
 -- where x stands at last
-abbrev pub found : Located
-found = Got.At (record { at = 80; len = 1 })
+abbrev pub found : Result Part Refusal
+found = Ok (record { at = 80; len = 1 })
 
 -- ---- logs and tables: a buffer of zeros, and a table of 8 slots
 
@@ -169,26 +167,26 @@ table₆ = 82 ∷ 1 ∷ 8 ∷ 18 ∷ 9 ∷ 0 ∷ 124 ∷ 9 ∷ 0 ∷ 35 ∷ 9 �
 -- ---- the contracts
 
 -- an answer's used length is the one that it was made with
-pub at_length : (P : ℕ → Type 0) {n : ℕ} {u : Used} → done n ≡ Done u → P n → P u.len
+pub at_length : (P : ℕ → Type 0) {n : ℕ} {u : Used} → done n ≡ Ok u → P n → P u.len
 at_length P {n} {u} e p = let q : n ≡ u.len = cc in subst P q p
 
 -- what the contracts admit, in the order of the run; and the room that the first set finds
 pub record Contracts : Type 0 where
   pub opens₁ : Opens blank 0 vacant (done 0) vacant
   pub begins₁ : Begins blank 0 vacant (begun_with 34 h₁) log₁ table₁
-  pub sets₁ : Writes log₁ 34 table₁ h₁ a (value_bytes (some x)) 1 (done 76) log₂ table₂
-  pub room₁ : append_answer log₁ 34 (length table₁) (plan 1 a (value_bytes (some x))) ≡ done 76
+  pub sets₁ : Writes log₁ 34 table₁ h₁ a (value_bytes (Some x)) 1 (done 76) log₂ table₂
+  pub room₁ : append_answer log₁ 34 (length table₁) (plan 1 a (value_bytes (Some x))) ≡ done 76
   pub begins₂ : Begins log₂ 76 table₂ (begun_with 135 h₂) log₃ table₃
-  pub sets₂ : Writes log₃ 135 table₃ h₂ a (value_bytes (some y)) 1 (Refused Conflict) log₃ table₃
+  pub sets₂ : Writes log₃ 135 table₃ h₂ a (value_bytes (Some y)) 1 (Err Conflict) log₃ table₃
   pub commits₁ : Commits log₃ 135 table₃ h₁ (done 172) log₄ table₄
   pub compacts₁ : Compacts log₄ 172 table₄ blank (done 81) table₅ log₅
   pub opens₂ : Opens log₅ 81 vacant (done 81) table₅
   pub begins₃ : Begins log₅ 81 table₅ (begun_with 140 h₃) log₆ table₆
   pub gets₃ : Gets log₆ 140 table₆ h₃ a found
-  pub gets₂ : Gets log₆ 140 table₆ h₂ a (Got.Refused Absent)
+  pub gets₂ : Gets log₆ 140 table₆ h₂ a (Err Absent)
   pub as_of₂ : BeginsAsOf log₆ 140 table₆ 2 (begun_with 140 back₂)
   pub as_of₃ : BeginsAsOf log₆ 140 table₆ 3 (begun_with 140 back₃)
-  pub gets_back₂ : Gets log₆ 140 table₆ back₂ a (Got.Refused Absent)
+  pub gets_back₂ : Gets log₆ 140 table₆ back₂ a (Err Absent)
   pub gets_back₃ : Gets log₆ 140 table₆ back₃ a found
 
 pub contracts : Contracts

@@ -4,9 +4,9 @@ use Prim.Native.Nat.{ℕ}
 use mathlib.Core.Path.{◌≡◌, refl, ap, ◌∙◌, subst}
 use mathlib.Core.Logic.{◌⊎◌, inl, inr}
 use mathlib.Core.List.{List, ◌∷◌}
+use Rattle.std.specs.Prelude.{Result, Ok, Err}
+use Rattle.keycode.specs.declared.refusal.Refusal.{Refusal}
 use Rattle.bitcask.specs.declared.request.Used.{Used}
-use Rattle.bitcask.specs.declared.request.Changed.{Changed}
-use Rattle.bitcask.specs.declared.request.Changed.TheVariants.{Done, Refused}
 use Rattle.bitcask.specs.recovery.Promises.{changed_number}
 use Rattle.mvcc.specs.declared.handle.Handle.{Handle}
 use Rattle.mvcc.specs.declared.begun.Begun.{Begun}
@@ -31,9 +31,9 @@ after_trace (later a) = later (after_trace a)
 
 -- ---- an answer 0
 
-pub done_is : (r : Changed) → changed_number r ≡ 0 → (u : Used) × (r ≡ Done u)
-done_is (Done u) z = (u, refl)
-done_is (Refused r) z = absurd (not_done r z)
+pub done_is : (r : Result Used Refusal) → changed_number r ≡ 0 → (u : Used) × (r ≡ Ok u)
+done_is (Ok u) z = (u, refl)
+done_is (Err r) z = absurd (not_done r z)
 
 begun-entry : (r : Begun) {h : Handle} → Gave r h → (f : Handle → Entry) → on_done r.answer (f r.handle) other_e ≡ f h
 begun-entry r {h} (z, e) f = let d = done_is r.answer z in rw d.1 (ap f e)

@@ -3,11 +3,12 @@
 use Prim.Native.Nat.{ℕ}
 use mathlib.Core.Path.{◌≡◌, refl}
 use mathlib.Core.Bool.{Bool, true}
-use mathlib.Core.Option.{none, some}
 use mathlib.Core.List.{List, [], ◌∷◌}
+use Rattle.std.specs.Prelude.{Result, None, Some}
+use Rattle.bitcask.specs.declared.request.Used.{Used}
+use Rattle.keycode.specs.declared.refusal.Refusal.{Refusal}
 use Rattle.keycode.proofs.Basics.{nope}
 use Rattle.bitcask.specs.keydir.Place.{all_none}
-use Rattle.bitcask.specs.declared.request.Changed.{Changed}
 use Rattle.bitcask.specs.recovery.Recover.{items, items_of, fold, recovered, view, map_of}
 use Rattle.mvcc.specs.declared.handle.Handle.{Handle}
 use Rattle.isolation.specs.history.Records.{Map}
@@ -67,10 +68,10 @@ step_holds H f (resuming b) = kept_read H refl (λ h. given_cases (λ x i g. nop
 step_holds H f (getting b) = kept_read H refl (λ h. given_cases (λ x i g. nope (cc)) (λ x i g. nope (cc)) (λ v x i g. nope (cc)) (λ g. g))
 step_holds H f (setting {h = h} {k = k} {v = v} b) =
     let g = f h refl in
-    holds (made_write H.kept (H.ready refl) (H.kept.handles h g) (some v) b refl (λ h. given_cases (λ x i g. nope (cc)) (λ x i g. nope (cc)) (λ v x i g. nope (cc)) (λ g. g)) g)
+    holds (made_write H.kept (H.ready refl) (H.kept.handles h g) (Some v) b refl (λ h. given_cases (λ x i g. nope (cc)) (λ x i g. nope (cc)) (λ v x i g. nope (cc)) (λ g. g)) g)
 step_holds H f (deleting {h = h} b) =
     let g = f h refl in
-    holds (made_write H.kept (H.ready refl) (H.kept.handles h g) none b refl (λ h. given_cases (λ x i g. nope (cc)) (λ x i g. nope (cc)) (λ v x i g. nope (cc)) (λ g. g)) g)
+    holds (made_write H.kept (H.ready refl) (H.kept.handles h g) None b refl (λ h. given_cases (λ x i g. nope (cc)) (λ x i g. nope (cc)) (λ v x i g. nope (cc)) (λ g. g)) g)
 step_holds H f (scanning b) = kept_read H refl (λ h. given_cases (λ x i g. nope (cc)) (λ x i g. nope (cc)) (λ v x i g. nope (cc)) (λ g. g))
 step_holds H f (scanning_prefix b) = kept_read H refl (λ h. given_cases (λ x i g. nope (cc)) (λ x i g. nope (cc)) (λ v x i g. nope (cc)) (λ g. g))
 step_holds H f (committing {h = h} {r = r} b) = let g = f h refl in holds (made_commit H.kept (H.ready refl) r (H.kept.handles h g) g b)
@@ -85,7 +86,7 @@ step_holds H f (checking b) = kept_read H refl (λ h. given_cases (λ x i g. nop
 
 -- ---- every run
 
-opened-past : {r : Changed} {T : Calls} (h : Handle) → Given h (opens r ∷ T) → Given h T
+opened-past : {r : Result Used Refusal} {T : Calls} (h : Handle) → Given h (opens r ∷ T) → Given h T
 opened-past h = given_cases (λ x i g. nope (cc)) (λ x i g. nope (cc)) (λ v x i g. nope (cc)) (λ g. g)
 
 pub run_holds : {b : Bool} {w : World} {T : Calls} → Run b w T → Holds b w T

@@ -7,6 +7,7 @@ use mathlib.Core.Logic.{◌⊎◌, inl, inr}
 use mathlib.Core.List.{List, ◌∷◌}
 use lib.Dec.{leb}
 use lib.ListN.{length}
+use Rattle.std.specs.Prelude.{Result, Ok, Err}
 use Rattle.keycode.specs.Tests.{pick, if_done}
 use Rattle.keycode.specs.Limits.{max_log}
 use Rattle.keycode.specs.Refusals.{number_of}
@@ -16,8 +17,6 @@ use Rattle.keycode.proofs.Basics.{nope}
 use Rattle.keycode.proofs.BufferLaws.{refused_stays}
 use Rattle.bitcask.specs.keydir.Place.{All}
 use Rattle.bitcask.specs.declared.request.Used.{Used}
-use Rattle.bitcask.specs.declared.request.Changed.{Changed}
-use Rattle.bitcask.specs.declared.request.Changed.TheVariants.{Done, Refused}
 use Rattle.bitcask.specs.recovery.Recover.{map_of}
 use Rattle.bitcask.specs.recovery.Agree.{fit, Agrees}
 use Rattle.bitcask.specs.recovery.Promises.{Opens}
@@ -113,39 +112,39 @@ kept_refused {w} {T} k a p q e past = (
 
 -- ---- compactions
 
-abbrev pub len_of : Changed → ℕ
-len_of (Done u) = u.len
-len_of (Refused r) = 0
+abbrev pub len_of : Result Used Refusal → ℕ
+len_of (Ok u) = u.len
+len_of (Err r) = 0
 
-done_picks : (a b : Bool) (n : ℕ) (x y : Refusal) (u : Used) → Done u ≡ pick a (pick b (Done (record { len = n })) (Refused x)) (Refused y) → u.len ≡ n
+done_picks : (a b : Bool) (n : ℕ) (x y : Refusal) (u : Used) → Ok u ≡ pick a (pick b (Ok (record { len = n })) (Err x)) (Err y) → u.len ≡ n
 done_picks true true n x y u e = ap len_of e
 done_picks true false n x y u e = nope (cc)
 done_picks false b n x y u e = nope (cc)
 
-pub compact_says : (log : List ℕ) (used words room : ℕ) (u : Used) → Done u ≡ compact_answer log used words room → u.len ≡ size_all (entries_of (map_of log used))
+pub compact_says : (log : List ℕ) (used words room : ℕ) (u : Used) → Ok u ≡ compact_answer log used words room → u.len ≡ size_all (entries_of (map_of log used))
 compact_says log used words room u e =
     let n : ℕ = size_all (entries_of (map_of log used)) in
     done_picks (pick (fit (length log) used words) (leb room max_log) false) (leb n room) n LogFull BadRequest u e
 
-pub kept_compacted : {w : World} {T : Calls} {m : Map} {g t g' : List ℕ} (r : Changed) → Kept w T m → Ready w → Compacts w.log w.used w.table g r t g'
+pub kept_compacted : {w : World} {T : Calls} {m : Map} {g t g' : List ℕ} (r : Result Used Refusal) → Kept w T m → Ready w → Compacts w.log w.used w.table g r t g'
     → Kept (compacted_to w r t g') T m × Ready (compacted_to w r t g')
-kept_compacted {w} {T} {m} {g} {t} {g'} (Done u) k a c =
+kept_compacted {w} {T} {m} {g} {t} {g'} (Ok u) k a c =
     let q = compact_says w.log w.used (length w.table) (length g) u (c.answer a) in
     (kept_at {w = w} {w' = record { log = g'; used = u.len; table = t }} (ap (map_of g') q ∙ c.same a refl) k, subst (λ (n : ℕ). Agrees g' n t) (sym q) (c.again a refl))
-kept_compacted {w} {T} {m} {g} {t} {g'} (Refused x) k a c =
+kept_compacted {w} {T} {m} {g} {t} {g'} (Err x) k a c =
     (kept_at {w = w} {w' = record { log = w.log; used = w.used; table = t }} refl k, subst (λ (y : List ℕ). Agrees w.log w.used y) (sym (refused_same x t w.table c.words)) a)
 
 -- ---- openings
 
-opened_map : (log : List ℕ) (used : ℕ) (t t' : List ℕ) (r : Changed) → Opens log used t r t' → map_of log (used_by r used) ≡ map_of log used
-opened_map log used t t' (Done u) o = open_map o refl
-opened_map log used t t' (Refused x) o = refl
+opened_map : (log : List ℕ) (used : ℕ) (t t' : List ℕ) (r : Result Used Refusal) → Opens log used t r t' → map_of log (used_by r used) ≡ map_of log used
+opened_map log used t t' (Ok u) o = open_map o refl
+opened_map log used t t' (Err x) o = refl
 
-opened_ready : (log : List ℕ) (used : ℕ) (t t' : List ℕ) (r : Changed) → Opens log used t r t' → is_done r ≡ true → Agrees log (used_by r used) t'
-opened_ready log used t t' (Done u) o e = open_agrees o refl
-opened_ready log used t t' (Refused x) o e = nope (cc)
+opened_ready : (log : List ℕ) (used : ℕ) (t t' : List ℕ) (r : Result Used Refusal) → Opens log used t r t' → is_done r ≡ true → Agrees log (used_by r used) t'
+opened_ready log used t t' (Ok u) o e = open_agrees o refl
+opened_ready log used t t' (Err x) o e = nope (cc)
 
-pub kept-opened : {w : World} {T : Calls} {m : Map} {t t' : List ℕ} {r : Changed} → Kept w T m → Opens w.log w.used t r t'
+pub kept-opened : {w : World} {T : Calls} {m : Map} {t t' : List ℕ} {r : Result Used Refusal} → Kept w T m → Opens w.log w.used t r t'
     → Kept (record { log = w.log; used = used_by r w.used; table = t' }) T m × (is_done r ≡ true → Agrees w.log (used_by r w.used) t')
 kept-opened {w} {t = t} {t' = t'} {r = r} k o =
     (kept_at {w = w} {w' = record { log = w.log; used = used_by r w.used; table = t' }} (opened_map w.log w.used t t' r o) k, opened_ready w.log w.used t t' r o)

@@ -2,17 +2,17 @@
 use Prim.Native.Nat.{ℕ, suc, ◌≤◌}
 use mathlib.Core.Path.{◌≡◌, refl, sym, ap, ◌∙◌}
 use mathlib.Core.Bool.{Bool, true, false}
-use mathlib.Core.Option.{Option, none, some}
 use mathlib.Core.List.{List, ◌∷◌}
 use native.Mathlib.Omega.{arith}
 use lib.Dec.{leb}
 use lib.ListN.{length}
 use borrow.Author.Tests.{le-ltb}
+use Rattle.std.specs.Prelude.{Result, Ok, Err, Option, None, Some}
+use Rattle.bitcask.specs.declared.request.Used.{Used}
+use Rattle.keycode.specs.declared.refusal.Refusal.{Refusal}
 use Rattle.keycode.specs.Limits.{max_key, max_value}
 use Rattle.keycode.specs.declared.refusal.Refusal.TheVariants.{Absent, ReadOnly, NotOpen, KeyTooLong, ValueTooLong, Conflict, LogFull, TableFull, TooManyOpen, NoSuchVersion, VersionsSpent, BadStore, BadRequest}
 use Rattle.keycode.proofs.Basics.{nope}
-use Rattle.bitcask.specs.declared.request.Changed.{Changed}
-use Rattle.bitcask.specs.declared.request.Changed.TheVariants as Change
 use Rattle.bitcask.specs.recovery.Promises.{changed_number}
 use Rattle.bitcask.specs.change.Append.{append_answer}
 use Rattle.mvcc.specs.declared.handle.Handle.{Handle}
@@ -39,30 +39,30 @@ use Rattle.isolation.proofs.ShownLaws.{usable_in}
 use mathlib.Core.Logic.{inr}
 
 -- the number 6 is Conflict's alone
-six_is : (r : Changed) → changed_number r ≡ 6 → r ≡ Change.Refused Conflict
-six_is (Change.Done u) e = absurd (omega arith)
-six_is (Change.Refused Absent) e = absurd (omega arith)
-six_is (Change.Refused ReadOnly) e = absurd (omega arith)
-six_is (Change.Refused NotOpen) e = absurd (omega arith)
-six_is (Change.Refused KeyTooLong) e = absurd (omega arith)
-six_is (Change.Refused ValueTooLong) e = absurd (omega arith)
-six_is (Change.Refused Conflict) e = refl
-six_is (Change.Refused LogFull) e = absurd (omega arith)
-six_is (Change.Refused TableFull) e = absurd (omega arith)
-six_is (Change.Refused TooManyOpen) e = absurd (omega arith)
-six_is (Change.Refused NoSuchVersion) e = absurd (omega arith)
-six_is (Change.Refused VersionsSpent) e = absurd (omega arith)
-six_is (Change.Refused BadStore) e = absurd (omega arith)
-six_is (Change.Refused BadRequest) e = absurd (omega arith)
+six_is : (r : Result Used Refusal) → changed_number r ≡ 6 → r ≡ Err Conflict
+six_is (Ok u) e = absurd (omega arith)
+six_is (Err Absent) e = absurd (omega arith)
+six_is (Err ReadOnly) e = absurd (omega arith)
+six_is (Err NotOpen) e = absurd (omega arith)
+six_is (Err KeyTooLong) e = absurd (omega arith)
+six_is (Err ValueTooLong) e = absurd (omega arith)
+six_is (Err Conflict) e = refl
+six_is (Err LogFull) e = absurd (omega arith)
+six_is (Err TableFull) e = absurd (omega arith)
+six_is (Err TooManyOpen) e = absurd (omega arith)
+six_is (Err NoSuchVersion) e = absurd (omega arith)
+six_is (Err VersionsSpent) e = absurd (omega arith)
+six_is (Err BadStore) e = absurd (omega arith)
+six_is (Err BadRequest) e = absurd (omega arith)
 
 small_is : (o : Option Bytes) → size_in o ≤ max_value → too_long o ≡ false
-small_is none l = refl
-small_is (some v) l = le-ltb 4096 (length v) l
+small_is None l = refl
+small_is (Some v) l = le-ltb 4096 (length v) l
 
 module _ {w : World} {T T₁ : Calls} {m : Map} (k : Kept w T m) (a : Ready w) {x : Begun} {h : Handle} (f : After (begins x ∷ T₁) T) (g : Gave x h)
-    (is : status (meaning T) h.version ≡ opened) {key : Key} (l : length key ≤ max_key) (o : Option Bytes) (v : size_in o ≤ max_value) {r : Changed} {log t : List ℕ}
+    (is : status (meaning T) h.version ≡ opened) {key : Key} (l : length key ≤ max_key) (o : Option Bytes) (v : size_in o ≤ max_value) {r : Result Used Refusal} {log t : List ℕ}
     (b : Writes w.log w.used w.table h key (value_bytes o) (size_in o) r log t) where
-  abbrev rest : Changed
+  abbrev rest : Result Used Refusal
   rest = append_answer w.log w.used (length w.table) (plan h.version key (value_bytes o))
 
   number : write_number m (sight_of h) key o ≡ H.pick (conflict m (sight_of h) key) 6 0

@@ -10,24 +10,21 @@ use native.Mathlib.Decide.{dec_le}
 use lib.Dec.{leb, eqb}
 use lib.ListN.{length}
 use borrow.Author.Tests.{le-leb, lt-leb}
+use Rattle.std.specs.Prelude.{Result, Ok, Err, ⊤}
+use Rattle.bitcask.specs.declared.request.Used.{Used}
+use Rattle.keycode.specs.declared.refusal.Refusal.{Refusal}
+use Rattle.keycode.specs.declared.parts.Part.{Part}
+use Rattle.bitcask.specs.declared.answers.KeyValue.{KeyValue}
 use Rattle.keycode.specs.Tests.{pick}
 use Rattle.keycode.specs.Limits.{max_key, max_value, max_log}
 use Rattle.keycode.specs.declared.refusal.Refusal.TheVariants.{ReadOnly, KeyTooLong, ValueTooLong, LogFull, BadStore, BadRequest}
 use Rattle.keycode.specs.key.Keys.{unversioned, encode}
 use Rattle.bitcask.specs.entry.Entry.{Entry}
 use Rattle.bitcask.specs.keydir.Slots.{slot_words}
-use Rattle.bitcask.specs.declared.request.Changed.{Changed}
-use Rattle.bitcask.specs.declared.request.Changed.TheVariants as Change
 use Rattle.bitcask.specs.recovery.Recover.{run, items, map_of}
 use Rattle.bitcask.specs.recovery.Agree.{fit, Agrees}
 use Rattle.bitcask.specs.recovery.Promises.{opened_by, open_answer, Opens}
 use Rattle.bitcask.proofs.recovery.AgreeLaws.{Sound as Sized}
-use Rattle.bitcask.specs.declared.answers.Located.{Located}
-use Rattle.bitcask.specs.declared.answers.Located.TheVariants as Got
-use Rattle.bitcask.specs.declared.answers.Stepped.{Stepped}
-use Rattle.bitcask.specs.declared.answers.Stepped.TheVariants as Step
-use Rattle.bitcask.specs.declared.append.Check.{Check}
-use Rattle.bitcask.specs.declared.append.Check.TheVariants.{Fine, Refused}
 use Rattle.bitcask.specs.change.Append.{size_all, append_answer}
 use Rattle.bitcask.specs.compaction.Promises.{Compacts}
 use Rattle.mvcc.specs.declared.handle.Handle.{Handle}
@@ -66,41 +63,41 @@ use Rattle.isolation.proofs.ReopenLaws.{run-clean}
 
 -- ---- the tests, one after the other
 
-refused_reads : (f g ro o short small : Bool) → f ≡ true → g ≡ true → ro ≡ true → allow_by f g ro o short small ≡ Refused ReadOnly
+refused_reads : (f g ro o short small : Bool) → f ≡ true → g ≡ true → ro ≡ true → allow_by f g ro o short small ≡ Err ReadOnly
 unfolding allow_by
 refused_reads f g ro o short small p q i = rw (p, q, i)
 
-refused_key : (f g ro o short small : Bool) → f ≡ true → g ≡ true → ro ≡ false → o ≡ true → short ≡ false → allow_by f g ro o short small ≡ Refused KeyTooLong
+refused_key : (f g ro o short small : Bool) → f ≡ true → g ≡ true → ro ≡ false → o ≡ true → short ≡ false → allow_by f g ro o short small ≡ Err KeyTooLong
 unfolding allow_by sizes_by
 refused_key f g ro o short small p q i j s = rw (p, q, i, j, s)
 
-refused_value : (f g ro o short small : Bool) → f ≡ true → g ≡ true → ro ≡ false → o ≡ true → short ≡ true → small ≡ false → allow_by f g ro o short small ≡ Refused ValueTooLong
+refused_value : (f g ro o short small : Bool) → f ≡ true → g ≡ true → ro ≡ false → o ≡ true → short ≡ true → small ≡ false → allow_by f g ro o short small ≡ Err ValueTooLong
 unfolding allow_by sizes_by
 refused_value f g ro o short small p q i j s v = rw (p, q, i, j, s, v)
 
-long_get : (c : Check) (b : Bool) (x r : Located) → r ≡ checked c (pick b x (Got.Refused KeyTooLong)) → c ≡ Fine → b ≡ false → r ≡ Got.Refused KeyTooLong
+long_get : (c : Result ⊤ Refusal) (b : Bool) (x r : Result Part Refusal) → r ≡ checked c (pick b x (Err KeyTooLong)) → c ≡ (Ok tt) → b ≡ false → r ≡ Err KeyTooLong
 long_get c b x r e p q = e ∙ rw (p, q)
 
-long_scan : (c : Check) (b : Bool) (x r : Stepped) → r ≡ checked_step (keys_by c b) x → c ≡ Fine → b ≡ false → r ≡ Step.Refused KeyTooLong
+long_scan : (c : Result ⊤ Refusal) (b : Bool) (x r : Result KeyValue Refusal) → r ≡ checked_step (keys_by c b) x → c ≡ (Ok tt) → b ≡ false → r ≡ Err KeyTooLong
 unfolding keys_by
 long_scan c b x r e p q = e ∙ rw (p, q)
 
-undo_passed : (c : Check) (ro users : Bool) (x r : Changed) → r ≡ or_else c (pick (pick ro true users) x (Change.Refused BadStore)) → c ≡ Fine → users ≡ true → r ≡ x
+undo_passed : (c : Result ⊤ Refusal) (ro users : Bool) (x r : Result Used Refusal) → r ≡ or_else c (pick (pick ro true users) x (Err BadStore)) → c ≡ (Ok tt) → users ≡ true → r ≡ x
 undo_passed c true users x r e p q = e ∙ rw p
 undo_passed c false users x r e p q = e ∙ rw (p, q)
 
 -- a list of tombstones meets no other refusal than that of a full log
 dels_answer : (log : List ℕ) (used : ℕ) (t : List ℕ) (es : List Entry) → Agrees log used t → Dels es
-    → append_answer log used (length t) es ≡ pick (leb (used + size_all es) (length log)) (Change.Done (record { len = used + size_all es })) (Change.Refused LogFull)
+    → append_answer log used (length t) es ≡ pick (leb (used + size_all es) (length log)) (Ok (record { len = used + size_all es })) (Err LogFull)
 unfolding append_answer
 dels_answer log used t es g d = go (dec_le (used + size_all es) (length log))
   where
     go : Dec (used + size_all es ≤ length log)
-        → append_answer log used (length t) es ≡ pick (leb (used + size_all es) (length log)) (Change.Done (record { len = used + size_all es })) (Change.Refused LogFull)
+        → append_answer log used (length t) es ≡ pick (leb (used + size_all es) (length log)) (Ok (record { len = used + size_all es })) (Err LogFull)
     go (yes h) = dels_done log used t es g d h ∙ rw (le-leb (used + size_all es) (length log) h)
     go (no h) = let l : length log < used + size_all es = omega arith in rw (lt-leb (used + size_all es) (length log) l)
 
-pub no_room : (w : World) (es : List Entry) → length w.log < w.used + size_all es → ended_in w es ≡ Change.Refused LogFull
+pub no_room : (w : World) (es : List Entry) → length w.log < w.used + size_all es → ended_in w es ≡ Err LogFull
 no_room w es l = rw (lt-leb (w.used + size_all es) (length w.log) l)
 
 -- the sizes of a request
@@ -108,15 +105,15 @@ abbrev sized : World → Bool
 sized w = fit (length w.log) w.used (length w.table)
 
 module _ {w : World} {T : Calls} {m : Map} (k : Kept w T m) (a : Ready w) where
-  pub compact_exact : {g t g' : List ℕ} {r : Changed} → Compacts w.log w.used w.table g r t g' → r ≡ compacted_in w (length g)
+  pub compact_exact : {g t g' : List ℕ} {r : Result Used Refusal} → Compacts w.log w.used w.table g r t g' → r ≡ compacted_in w (length g)
   compact_exact b = b.answer a ∙ rw a.sound
 
-  pub plain_gets : {key : List ℕ} {r : Located} → GetsUnversioned w.log w.used w.table key r
-      → r ≡ pick (leb (length key) max_key) (row_located (look_row (encode (unversioned key)) (rows_in w.log w.used))) (Got.Refused KeyTooLong)
+  pub plain_gets : {key : List ℕ} {r : Result Part Refusal} → GetsUnversioned w.log w.used w.table key r
+      → r ≡ pick (leb (length key) max_key) (row_located (look_row (encode (unversioned key)) (rows_in w.log w.used))) (Err KeyTooLong)
   unfolding unversioned_answer
   plain_gets b = b.answer a ∙ rw a.sound
 
-  pub plain_sets : {key value : List ℕ} {r : Changed} {log t : List ℕ} → SetsPlain w.log w.used w.table key value r log t
+  pub plain_sets : {key value : List ℕ} {r : Result Used Refusal} {log t : List ℕ} → SetsPlain w.log w.used w.table key value r log t
       → r ≡ or_else (sizes_by (leb (length key) max_key) (leb (length value) max_value)) (append_answer w.log w.used (length w.table) (plain_plan key value))
   unfolding plain_answer
   plain_sets b = b.answer a ∙ rw a.sound
@@ -124,8 +121,8 @@ module _ {w : World} {T : Calls} {m : Map} (k : Kept w T m) (a : Ready w) where
   -- ---- with a handle that one of the calls gave
 
   module _ {h : Handle} (g : Given h T) where
-    pub write_reads : h.read_only ≡ true → {key payload : List ℕ} {size : ℕ} {r : Changed} {log t : List ℕ} → Writes w.log w.used w.table h key payload size r log t
-        → r ≡ Change.Refused ReadOnly
+    pub write_reads : h.read_only ≡ true → {key payload : List ℕ} {size : ℕ} {r : Result Used Refusal} {log t : List ℕ} → Writes w.log w.used w.table h key payload size r log t
+        → r ≡ Err ReadOnly
     unfolding write_answer
     write_reads e {key} {payload} {size} b =
         b.answer a
@@ -133,24 +130,24 @@ module _ {w : World} {T : Calls} {m : Map} (k : Kept w T m) (a : Ready w) where
         a.sound (k.handles h g).sound e)
 
     module _ (u : Usable T h) where
-      admitted : admits w.log w.used w.table h ≡ Fine
+      admitted : admits w.log w.used w.table h ≡ (Ok tt)
       admitted = checks_pass k (k.handles h g) a (usable_in k h u)
 
-      pub get_long : {key : List ℕ} → max_key < length key → {r : Located} → Gets w.log w.used w.table h key r → r ≡ Got.Refused KeyTooLong
+      pub get_long : {key : List ℕ} → max_key < length key → {r : Result Part Refusal} → Gets w.log w.used w.table h key r → r ≡ Err KeyTooLong
       unfolding get_answer
       get_long {key} l {r} b = long_get (admits w.log w.used w.table h) (leb (length key) max_key) _ r (b.answer a) admitted (lt-leb (length key) max_key l)
 
-      pub scan_long : {short : Bool} {test : List ℕ → Bool} → short ≡ false → {r : Stepped} → Scanning w.log w.used w.table h short test r → r ≡ Step.Refused KeyTooLong
+      pub scan_long : {short : Bool} {test : List ℕ → Bool} → short ≡ false → {r : Result KeyValue Refusal} → Scanning w.log w.used w.table h short test r → r ≡ Err KeyTooLong
       unfolding scan_answer
       scan_long {short} e {r} b = long_scan (admits w.log w.used w.table h) short _ r (b.answer a) admitted e
 
-      pub commit_ends : {r : Changed} {log t : List ℕ} → Commits w.log w.used w.table h r log t → r ≡ ended_in w (commit_plan h (map_of w.log w.used))
+      pub commit_ends : {r : Result Used Refusal} {log t : List ℕ} → Commits w.log w.used w.table h r log t → r ≡ ended_in w (commit_plan h (map_of w.log w.used))
       unfolding commit_answer
       commit_ends b =
-          b.answer a ∙ ap (λ (c : Check). or_else c (append_answer w.log w.used (length w.table) (commit_plan h (map_of w.log w.used)))) admitted
+          b.answer a ∙ ap (λ (c : Result ⊤ Refusal). or_else c (append_answer w.log w.used (length w.table) (commit_plan h (map_of w.log w.used)))) admitted
           ∙ dels_answer w.log w.used w.table (commit_plan h (map_of w.log w.used)) a (commit_dels h (map_of w.log w.used))
 
-      pub rollback_ends : {r : Changed} {log t : List ℕ} → RollsBack w.log w.used w.table h r log t → r ≡ ended_in w (rollback_plan h (map_of w.log w.used))
+      pub rollback_ends : {r : Result Used Refusal} {log t : List ℕ} → RollsBack w.log w.used w.table h r log t → r ≡ ended_in w (rollback_plan h (map_of w.log w.used))
       unfolding rollback_answer undo_answer
       rollback_ends {r} b =
           undo_passed (admits w.log w.used w.table h) h.read_only (all_users (writes_of h.version (map_of w.log w.used)))
@@ -169,15 +166,15 @@ module _ {w : World} {T : Calls} {m : Map} (k : Kept w T m) (a : Ready w) where
     live : open_in w.log w.used h ≡ true
     live = open_usable k sound ∙ usable_in k h (inr is)
 
-    module _ {key payload : List ℕ} {size : ℕ} {r : Changed} {log t : List ℕ} (b : Writes w.log w.used w.table h key payload size r log t) where
-      pub write_long : max_key < length key → r ≡ Change.Refused KeyTooLong
+    module _ {key payload : List ℕ} {size : ℕ} {r : Result Used Refusal} {log t : List ℕ} (b : Writes w.log w.used w.table h key payload size r log t) where
+      pub write_long : max_key < length key → r ≡ Err KeyTooLong
       unfolding write_answer
       write_long l =
           b.answer a
           ∙ rw (refused_key (sized w) (sound_handle h) h.read_only (open_in w.log w.used h) (leb (length key) max_key) (leb size max_value)
           a.sound sound.sound own live (lt-leb (length key) max_key l))
 
-      pub write_large : length key ≤ max_key → max_value < size → r ≡ Change.Refused ValueTooLong
+      pub write_large : length key ≤ max_key → max_value < size → r ≡ Err ValueTooLong
       unfolding write_answer
       write_large l v =
           b.answer a
@@ -187,20 +184,20 @@ module _ {w : World} {T : Calls} {m : Map} (k : Kept w T m) (a : Ready w) where
 -- ---- an opening with any table: nothing is ever cut
 
 -- of a log and a used length that are right the words alone decide
-fit_words : (size used words : ℕ) (x : Changed) → size ≤ max_log → used ≤ size
-    → pick (fit size used words) x (Change.Refused BadRequest) ≡ pick (eqb (words % slot_words) 0) x (Change.Refused BadRequest)
+fit_words : (size used words : ℕ) (x : Result Used Refusal) → size ≤ max_log → used ≤ size
+    → pick (fit size used words) x (Err BadRequest) ≡ pick (eqb (words % slot_words) 0) x (Err BadRequest)
 unfolding fit
 fit_words size used words x s u = rw (le-leb size max_log s, le-leb used size u)
 
-module _ {b : Bool} {w : World} {T : Calls} (R : Run b w T) (t : List ℕ) {r : Changed} {t' : List ℕ} (o : Opens w.log w.used t r t') where
-  abbrev walked : Changed
+module _ {b : Bool} {w : World} {T : Calls} (R : Run b w T) (t : List ℕ) {r : Result Used Refusal} {t' : List ℕ} (o : Opens w.log w.used t r t') where
+  abbrev walked : Result Used Refusal
   walked = opened_by (run w.log (length t / slot_words) (items w.log w.used 0) []) w.used
 
-  pub open_any : r ≡ pick (fit (length w.log) w.used (length t)) walked (Change.Refused BadRequest)
+  pub open_any : r ≡ pick (fit (length w.log) w.used (length t)) walked (Err BadRequest)
   unfolding open_answer
   open_any =
       o.answer
-      ∙ ap (λ (n : ℕ). pick (fit (length w.log) w.used (length t)) (opened_by (run w.log (length t / slot_words) (items w.log w.used 0) []) n) (Change.Refused BadRequest))
+      ∙ ap (λ (n : ℕ). pick (fit (length w.log) w.used (length t)) (opened_by (run w.log (length t / slot_words) (items w.log w.used 0) []) n) (Err BadRequest))
       (run-clean R)
 
   pub open_exact : Sized (length w.log) w.used (length w.table) → r ≡ opened_in w (length t)

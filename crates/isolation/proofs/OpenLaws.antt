@@ -6,10 +6,10 @@ use mathlib.Core.Bool.{Bool, true, false, ◌||◌}
 use mathlib.Core.List.{List}
 use native.Mathlib.Omega.{arith}
 use borrow.Author.Tests.{ne_eqb}
+use Rattle.std.specs.Prelude.{Ok}
 use Rattle.keycode.specs.Tests.{pick}
 use Rattle.keycode.specs.key.Keys.{txn_active}
 use Rattle.bitcask.specs.recovery.Map.{Pair, live_in}
-use Rattle.bitcask.specs.declared.append.Check.TheVariants.{Fine}
 use Rattle.mvcc.specs.declared.handle.Handle.{Handle}
 use Rattle.mvcc.specs.request.Checks.{active_key, own_version, open_by, admit_by, open_in}
 use Rattle.isolation.specs.history.Records.{Map, look}
@@ -40,6 +40,6 @@ module _ {w : World} {T : Calls} {m : Map} {h : Handle} (k : Kept w T m) (s : So
       go true o = refl
       go false o = rw (own_version_lem h.version (o refl).0 (o refl).1)
 
-  pub checks_pass : Ready w → usable m (sight_of h) ≡ true → admits w.log w.used w.table h ≡ Fine
+  pub checks_pass : Ready w → usable m (sight_of h) ≡ true → admits w.log w.used w.table h ≡ (Ok tt)
   unfolding admit_by
   checks_pass a u = rw (a.sound, s.sound, open_usable, u)

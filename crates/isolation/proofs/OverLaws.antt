@@ -6,17 +6,15 @@ use mathlib.Core.Logic.{◌≢◌}
 use mathlib.Core.List.{List, ◌∷◌}
 use lib.Dec.{leb}
 use lib.ListN.{length}
+use Rattle.std.specs.Prelude.{Result, Err}
+use Rattle.bitcask.specs.declared.request.Used.{Used}
+use Rattle.keycode.specs.declared.refusal.Refusal.{Refusal}
+use Rattle.keycode.specs.declared.parts.Part.{Part}
+use Rattle.bitcask.specs.declared.answers.KeyValue.{KeyValue}
 use Rattle.keycode.specs.Limits.{max_key, max_value}
 use Rattle.keycode.specs.declared.refusal.Refusal.TheVariants.{NotOpen}
 use Rattle.keycode.specs.key.Keys.{txn_active}
-use Rattle.bitcask.specs.declared.request.Changed.{Changed}
-use Rattle.bitcask.specs.declared.request.Changed.TheVariants as Change
 use Rattle.bitcask.specs.recovery.Agree.{fit}
-use Rattle.bitcask.specs.declared.append.Check.TheVariants.{Refused}
-use Rattle.bitcask.specs.declared.answers.Located.{Located}
-use Rattle.bitcask.specs.declared.answers.Located.TheVariants as Got
-use Rattle.bitcask.specs.declared.answers.Stepped.{Stepped}
-use Rattle.bitcask.specs.declared.answers.Stepped.TheVariants as Step
 use Rattle.mvcc.specs.declared.handle.Handle.{Handle}
 use Rattle.mvcc.specs.handle.Handles.{sound_handle}
 use Rattle.mvcc.specs.declared.begun.Begun.{Begun}
@@ -49,11 +47,11 @@ not_open_lem done n = refl
 not_open_lem rolled n = refl
 
 -- the first checks of a sound request with a handle that is not open
-refused_by_lem : (f g o : Bool) → f ≡ true → g ≡ true → o ≡ false → admit_by f g o ≡ Refused NotOpen
+refused_by_lem : (f g o : Bool) → f ≡ true → g ≡ true → o ≡ false → admit_by f g o ≡ Err NotOpen
 unfolding admit_by
 refused_by_lem f g o p q i = rw (p, q, i)
 
-refused_write : (f g ro o short small : Bool) → f ≡ true → g ≡ true → ro ≡ false → o ≡ false → allow_by f g ro o short small ≡ Refused NotOpen
+refused_write : (f g ro o short small : Bool) → f ≡ true → g ≡ true → ro ≡ false → o ≡ false → allow_by f g ro o short small ≡ Err NotOpen
 unfolding allow_by
 refused_write f g ro o short small p q i j = rw (p, q, i, j)
 
@@ -70,14 +68,14 @@ module _ {w : World} {T T₁ : Calls} {m : Map} (k : Kept w T m) (a : Ready w) {
       open_usable k sound ∙ ap (λ (b : Bool). b || is_some (look m (txn_active h.version))) own
       ∙ run_open order k.run h.version ∙ not_open_lem (status (meaning T) h.version) n
 
-  check : admit_by (fit (length w.log) w.used (length w.table)) (sound_handle h) (open_in w.log w.used h) ≡ Refused NotOpen
+  check : admit_by (fit (length w.log) w.used (length w.table)) (sound_handle h) (open_in w.log w.used h) ≡ Err NotOpen
   check = refused_by_lem (fit (length w.log) w.used (length w.table)) (sound_handle h) (open_in w.log w.used h) a.sound sound.sound closed
 
-  pub ended-gets : {key : List ℕ} {r : Located} → Gets w.log w.used w.table h key r → r ≡ Got.Refused NotOpen
+  pub ended-gets : {key : List ℕ} {r : Result Part Refusal} → Gets w.log w.used w.table h key r → r ≡ Err NotOpen
   unfolding get_answer
   ended-gets b = b.answer a ∙ rw check
 
-  pub ended-scans : {short : Bool} {test : List ℕ → Bool} {r : Stepped} → Scanning w.log w.used w.table h short test r → r ≡ Step.Refused NotOpen
+  pub ended-scans : {short : Bool} {test : List ℕ → Bool} {r : Result KeyValue Refusal} → Scanning w.log w.used w.table h short test r → r ≡ Err NotOpen
   unfolding scan_answer keys_by
   ended-scans b = b.answer a ∙ rw check
 
@@ -85,16 +83,16 @@ module _ {w : World} {T T₁ : Calls} {m : Map} (k : Kept w T m) (a : Ready w) {
   unfolding resume_answer
   ended-resumes b = b.answer a ∙ rw check
 
-  pub ended-writes : {key payload : List ℕ} {size : ℕ} {r : Changed} {log t : List ℕ} → Writes w.log w.used w.table h key payload size r log t → r ≡ Change.Refused NotOpen
+  pub ended-writes : {key payload : List ℕ} {size : ℕ} {r : Result Used Refusal} {log t : List ℕ} → Writes w.log w.used w.table h key payload size r log t → r ≡ Err NotOpen
   unfolding write_answer
   ended-writes {key} {payload} {size} b =
       b.answer a
       ∙ rw (refused_write (fit (length w.log) w.used (length w.table)) (sound_handle h) h.read_only (open_in w.log w.used h) (leb (length key) max_key) (leb size max_value) a.sound sound.sound own closed)
 
-  pub ended-commits : {r : Changed} {log t : List ℕ} → Commits w.log w.used w.table h r log t → r ≡ Change.Refused NotOpen
+  pub ended-commits : {r : Result Used Refusal} {log t : List ℕ} → Commits w.log w.used w.table h r log t → r ≡ Err NotOpen
   unfolding commit_answer
   ended-commits b = b.answer a ∙ rw check
 
-  pub ended_rolls : {r : Changed} {log t : List ℕ} → RollsBack w.log w.used w.table h r log t → r ≡ Change.Refused NotOpen
+  pub ended_rolls : {r : Result Used Refusal} {log t : List ℕ} → RollsBack w.log w.used w.table h r log t → r ≡ Err NotOpen
   unfolding rollback_answer
   ended_rolls b = b.answer a ∙ rw check

@@ -6,16 +6,16 @@ use mathlib.Core.List.{List, ◌∷◌}
 use lib.Dec.{leb, eqb}
 use lib.ListN.{length}
 use borrow.Author.Tests.{leb-true, not-false}
+use Rattle.std.specs.Prelude.{Result, Ok, Err}
+use Rattle.bitcask.specs.declared.request.Used.{Used}
+use Rattle.keycode.specs.declared.refusal.Refusal.{Refusal}
 use Rattle.keycode.specs.Tests.{pick}
 use Rattle.keycode.specs.Limits.{max_key}
 use Rattle.keycode.proofs.Basics.{nope}
 use Rattle.bitcask.specs.keydir.Place.{All}
-use Rattle.bitcask.specs.declared.request.Changed.{Changed}
-use Rattle.bitcask.specs.declared.request.Changed.TheVariants as Change
 use Rattle.bitcask.specs.recovery.Map.{Pair}
 use Rattle.bitcask.specs.recovery.Recover.{map_of}
 use Rattle.bitcask.specs.recovery.Agree.{fit, Agrees}
-use Rattle.bitcask.specs.declared.append.Check.TheVariants.{Fine}
 use Rattle.bitcask.specs.change.Append.{size_all, after_all}
 use Rattle.mvcc.specs.declared.handle.Handle.{Handle}
 use Rattle.mvcc.specs.handle.Handles.{sound_handle}
@@ -44,13 +44,13 @@ use Rattle.isolation.proofs.OpenLaws.{open_usable}
 
 -- ---- they give no handle
 
-plain_past : {k v : List ℕ} {r : Changed} {T : Calls} (h : Handle) → Given h (sets_plain k v r ∷ T) → Given h T
+plain_past : {k v : List ℕ} {r : Result Used Refusal} {T : Calls} (h : Handle) → Given h (sets_plain k v r ∷ T) → Given h T
 plain_past h = given_cases (λ x i g. nope (cc)) (λ x i g. nope (cc)) (λ v x i g. nope (cc)) (λ g. g)
 
-commit_past : {x : Handle} {r : Changed} {T : Calls} (h : Handle) → Given h (commits x r ∷ T) → Given h T
+commit_past : {x : Handle} {r : Result Used Refusal} {T : Calls} (h : Handle) → Given h (commits x r ∷ T) → Given h T
 commit_past h = given_cases (λ x i g. nope (cc)) (λ x i g. nope (cc)) (λ v x i g. nope (cc)) (λ g. g)
 
-rollback_past : {x : Handle} {r : Changed} {T : Calls} (h : Handle) → Given h (rolls_back x r ∷ T) → Given h T
+rollback_past : {x : Handle} {r : Result Used Refusal} {T : Calls} (h : Handle) → Given h (rolls_back x r ∷ T) → Given h T
 rollback_past h = given_cases (λ x i g. nope (cc)) (λ x i g. nope (cc)) (λ v x i g. nope (cc)) (λ g. g)
 
 -- ---- the unversioned set
@@ -62,10 +62,10 @@ module _ {w : World} {T : Calls} {m : Map} (k : Kept w T m) (a : Ready w) where
   sorted : Sorted key_order m
   sorted = run-sorted order k.run
 
-  pub made_plain : {key value : List ℕ} (r : Changed) {log t : List ℕ} → SetsPlain w.log w.used w.table key value r log t
+  pub made_plain : {key value : List ℕ} (r : Result Used Refusal) {log t : List ℕ} → SetsPlain w.log w.used w.table key value r log t
       → (m' : Map) × (Kept (changed_to w r log t) (sets_plain key value r ∷ T) m' × Ready (changed_to w r log t))
   unfolding trace_of
-  made_plain {key} {value} (Change.Done u) {log} {t} b =
+  made_plain {key} {value} (Ok u) {log} {t} b =
       let q : u.len ≡ w.used + size_all (plain_plan key value) = (b.leaves.ends u refl).0 in
       let f : leb (length key) max_key ≡ true = short_done (fit (length w.log) w.used (length w.table)) (leb (length key) max_key) 0 refl a.sound b.early.key_long in (
         put_record key_order (plain_rec key value) m,
@@ -79,19 +79,19 @@ module _ {w : World} {T : Calls} {m : Map} (k : Kept w T m) (a : Ready w) where
           subst (λ (n : ℕ). Agrees log n t) (sym q) (b.leaves.again a refl),
         ),
       )
-  made_plain {key} {value} (Change.Refused y) {log} {t} b =
+  made_plain {key} {value} (Err y) {log} {t} b =
       (m, kept_refused k a (refused_same y _ _ b.leaves.bytes) (refused_same y _ _ b.leaves.words) refl plain_past)
 
   -- ---- commit and rollback
 
-  fine_open : (f g o : Bool) → admit_by f g o ≡ Fine → o ≡ true
+  fine_open : (f g o : Bool) → admit_by f g o ≡ (Ok tt) → o ≡ true
   unfolding admit_by
   fine_open true true true e = refl
   fine_open true true false e = nope (cc)
   fine_open true false o e = nope (cc)
   fine_open false g o e = nope (cc)
 
-  usable-is : {h : Handle} → Sound h → admits w.log w.used w.table h ≡ Fine → usable m (sight_of h) ≡ true
+  usable-is : {h : Handle} → Sound h → admits w.log w.used w.table h ≡ (Ok tt) → usable m (sight_of h) ≡ true
   usable-is {h} s e = sym (open_usable k s) ∙ fine_open (fit (length w.log) w.used (length w.table)) (sound_handle h) (open_in w.log w.used h) e
 
   commit_map_lem : (h : Handle) (i : Bool) → h.read_only ≡ i → after_all (commit_plan h (pairs_in m)) (pairs_in m) ≡ pairs_in (cond i m (commit_map h.version m))
@@ -108,10 +108,10 @@ module _ {w : World} {T : Calls} {m : Map} (k : Kept w T m) (a : Ready w) where
   fine_ended true f = k.fine
   fine_ended false f = f
 
-  pub made_commit : {h : Handle} (r : Changed) {log t : List ℕ} → Sound h → Given h T → Commits w.log w.used w.table h r log t
+  pub made_commit : {h : Handle} (r : Result Used Refusal) {log t : List ℕ} → Sound h → Given h T → Commits w.log w.used w.table h r log t
       → (m' : Map) × (Kept (changed_to w r log t) (commits h r ∷ T) m' × Ready (changed_to w r log t))
   unfolding trace_of
-  made_commit {h} (Change.Done u) {log} {t} s g b =
+  made_commit {h} (Ok u) {log} {t} s g b =
       let p = commit_ended a refl b in
       let q : u.len ≡ w.used + size_all (commit_plan h (map_of w.log w.used)) = ap len_of p.1.done in (
         cond h.read_only m (commit_map h.version m),
@@ -125,12 +125,12 @@ module _ {w : World} {T : Calls} {m : Map} (k : Kept w T m) (a : Ready w) where
           subst (λ (n : ℕ). Agrees log n t) (sym q) (b.leaves.again a refl),
         ),
       )
-  made_commit (Change.Refused y) s g b = (m, kept_refused k a (refused_same y _ _ b.leaves.kept) (refused_same y _ _ b.leaves.words) refl commit_past)
+  made_commit (Err y) s g b = (m, kept_refused k a (refused_same y _ _ b.leaves.kept) (refused_same y _ _ b.leaves.words) refl commit_past)
 
-  pub made_rollback : {h : Handle} (r : Changed) {log t : List ℕ} → Sound h → Given h T → RollsBack w.log w.used w.table h r log t
+  pub made_rollback : {h : Handle} (r : Result Used Refusal) {log t : List ℕ} → Sound h → Given h T → RollsBack w.log w.used w.table h r log t
       → (m' : Map) × (Kept (changed_to w r log t) (rolls_back h r ∷ T) m' × Ready (changed_to w r log t))
   unfolding trace_of
-  made_rollback {h} (Change.Done u) {log} {t} s g b =
+  made_rollback {h} (Ok u) {log} {t} s g b =
       let p = rollback_ended a refl b in
       let q : u.len ≡ w.used + size_all (rollback_plan h (map_of w.log w.used)) = ap len_of p.1.done in (
         cond h.read_only m (rollback_map h.version m),
@@ -144,4 +144,4 @@ module _ {w : World} {T : Calls} {m : Map} (k : Kept w T m) (a : Ready w) where
           subst (λ (n : ℕ). Agrees log n t) (sym q) (b.leaves.again a refl),
         ),
       )
-  made_rollback (Change.Refused y) s g b = (m, kept_refused k a (refused_same y _ _ b.leaves.kept) (refused_same y _ _ b.leaves.words) refl rollback_past)
+  made_rollback (Err y) s g b = (m, kept_refused k a (refused_same y _ _ b.leaves.kept) (refused_same y _ _ b.leaves.words) refl rollback_past)

@@ -6,6 +6,9 @@ use mathlib.Core.Bool.{Bool, true}
 use mathlib.Core.List.{List, [], ◌∷◌}
 use native.Mathlib.Omega.{arith}
 use lib.ListN.{length}
+use Rattle.std.specs.Prelude.{Result, Ok, Err}
+use Rattle.bitcask.specs.declared.request.Used.{Used}
+use Rattle.keycode.specs.declared.refusal.Refusal.{Refusal}
 use Rattle.keycode.specs.Tests.{if_done}
 use Rattle.keycode.specs.Limits.{max_log}
 use Rattle.keycode.specs.Buffer.{put}
@@ -15,8 +18,6 @@ use Rattle.bitcask.specs.entry.Entry.{Entry, bytes_of, size_of}
 use Rattle.bitcask.proofs.entry.EntryLaws.{length-bytes}
 use Rattle.bitcask.specs.keydir.Slots.{slot_words}
 use Rattle.bitcask.specs.keydir.Place.{count_of}
-use Rattle.bitcask.specs.declared.request.Changed.{Changed}
-use Rattle.bitcask.specs.declared.request.Changed.TheVariants.{Done, Refused}
 use Rattle.bitcask.specs.recovery.Map.{Pair}
 use Rattle.bitcask.specs.recovery.Recover.{ends, items, map_of}
 use Rattle.bitcask.specs.recovery.Agree.{Agrees}
@@ -99,10 +100,10 @@ same_grew : {w : World} {log t : List ℕ} → Grew w → log ≡ w.log → t �
 same_grew g p q = rw (p, q) g
 
 module _ {w : World} (a : Ready w) (g : Grew w) where
-  grew_compacted : {x t x' : List ℕ} (r : Changed) → Compacts w.log w.used w.table x r t x' → Grew (compacted_to w r t x')
-  grew_compacted {x} {t} {x'} (Done u) b =
+  grew_compacted : {x t x' : List ℕ} (r : Result Used Refusal) → Compacts w.log w.used w.table x r t x' → Grew (compacted_to w r t x')
+  grew_compacted {x} {t} {x'} (Ok u) b =
       words-at b.long.0 (grown_at (length w.table / slot_words) refl (sym (compact_says w.log w.used (length w.table) (length x) u (b.answer a))) (compacts_grown a b refl))
-  grew_compacted {t = t} (Refused y) b = same_grew g refl (refused_same y t w.table b.words)
+  grew_compacted {t = t} (Err y) b = same_grew g refl (refused_same y t w.table b.words)
 
   grew_begun : (r : Begun) {log t : List ℕ} → Begins w.log w.used w.table r log t → Grew (changed_to w r.answer log t)
   grew_begun r {log} {t} b = go r.answer refl
@@ -110,24 +111,24 @@ module _ {w : World} (a : Ready w) (g : Grew w) where
       bytes : (n : ℕ) → changed_number r.answer ≡ n → log ≡ if_done n (put w.log w.used (bytes_all (plan_of r.handle))) w.log
       bytes n e = b.bytes ∙ ap (λ (i : ℕ). if_done i (put w.log w.used (bytes_all (plan_of r.handle))) w.log) e
 
-      go : (x : Changed) → r.answer ≡ x → Grew (changed_to w x log t)
-      go (Done u) e =
+      go : (x : Result Used Refusal) → r.answer ≡ x → Grew (changed_to w x log t)
+      go (Ok u) e =
           let z : changed_number r.answer ≡ 0 = ap changed_number e in
           let s : Sets (plan_of r.handle) = begin-sets (length (set_of r.handle)) r.handle.version (set_bytes (set_of r.handle)) in
           sets_grown (plan_of r.handle) t a g (b.ends u e).1 (bytes 0 z) b.long (b.ends u e).0 s (b.again a z) (b.map a z)
-      go (Refused y) e =
+      go (Err y) e =
           same_grew g (refused_same y _ _ (bytes _ (ap changed_number e))) (refused_same y _ _ (b.words ∙ ap (λ (i : ℕ). if_done i t w.table) (ap changed_number e)))
 
   -- sets, and tombstones
-  grew_left : {es : List Entry} (r : Changed) {log t : List ℕ} → Sets es → Leaves w.log w.used w.table es r log t → (changed_number r ≡ 0 → Grows w.log w.used es r log)
+  grew_left : {es : List Entry} (r : Result Used Refusal) {log t : List ℕ} → Sets es → Leaves w.log w.used w.table es r log t → (changed_number r ≡ 0 → Grows w.log w.used es r log)
       → Grew (changed_to w r log t)
-  grew_left {es} (Done u) {t = t} s b m = sets_grown es t a g (b.ends u refl).1 b.bytes b.long (b.ends u refl).0 s (b.again a refl) (m refl).map
-  grew_left (Refused y) s b m = same_grew g (refused_same y _ _ b.bytes) (refused_same y _ _ b.words)
+  grew_left {es} (Ok u) {t = t} s b m = sets_grown es t a g (b.ends u refl).1 b.bytes b.long (b.ends u refl).0 s (b.again a refl) (m refl).map
+  grew_left (Err y) s b m = same_grew g (refused_same y _ _ b.bytes) (refused_same y _ _ b.words)
 
-  grew_ended : {es : List Entry} (r : Changed) {log t : List ℕ} → Dels es → End.Leaves w.log w.used w.table es r log t → (changed_number r ≡ 0 → Ended w.log w.used es r log)
+  grew_ended : {es : List Entry} (r : Result Used Refusal) {log t : List ℕ} → Dels es → End.Leaves w.log w.used w.table es r log t → (changed_number r ≡ 0 → Ended w.log w.used es r log)
       → Grew (changed_to w r log t)
-  grew_ended {es} (Done u) {t = t} d b m = dels_grown es t a g (m refl).room (b.bytes a) b.long (ap len_of (m refl).done) d
-  grew_ended (Refused y) d b m = same_grew g (refused_same y _ _ b.kept) (refused_same y _ _ b.words)
+  grew_ended {es} (Ok u) {t = t} d b m = dels_grown es t a g (m refl).room (b.bytes a) b.long (ap len_of (m refl).done) d
+  grew_ended (Err y) d b m = same_grew g (refused_same y _ _ b.kept) (refused_same y _ _ b.words)
 
   step_grew : {w' : World} {c : Call} → Step w c w' → Grew w'
   step_grew (compacting x {r = r} b) = grew_compacted r b
@@ -152,9 +153,9 @@ module _ {w : World} (a : Ready w) (g : Grew w) where
 
 -- ---- every run
 
-open_grew : {log : List ℕ} {used : ℕ} {t : List ℕ} (r : Changed) {t' : List ℕ} → Opens log used t r t' → is_done r ≡ true → Grew (record { log = log; used = used_by r used; table = t' })
-open_grew {log} {used} {t} (Done u) o e = words-at (open_long o refl) (grown_opened (opened-says log used (length t) u (sym o.answer)))
-open_grew (Refused y) o e = nope (cc)
+open_grew : {log : List ℕ} {used : ℕ} {t : List ℕ} (r : Result Used Refusal) {t' : List ℕ} → Opens log used t r t' → is_done r ≡ true → Grew (record { log = log; used = used_by r used; table = t' })
+open_grew {log} {used} {t} (Ok u) o e = words-at (open_long o refl) (grown_opened (opened-says log used (length t) u (sym o.answer)))
+open_grew (Err y) o e = nope (cc)
 
 grew : {b : Bool} {w : World} {T : Calls} → Run b w T → b ≡ true → Grew w
 grew (first log t {r = r} o) e = open_grew r o e
@@ -162,9 +163,9 @@ grew (opened R t {r = r} o) e = open_grew r o e
 grew (called R f s) e = step_grew ((run_holds R).ready refl) (grew R refl) s
 
 -- the used length is the end of the last entry, after refused openings too
-opened-clean : {log : List ℕ} {used : ℕ} {t : List ℕ} (r : Changed) {t' : List ℕ} → Opens log used t r t' → ends 0 (items log used 0) ≡ used → ends 0 (items log (used_by r used) 0) ≡ used_by r used
-opened-clean (Done u) o e = (open_grew (Done u) o refl).clean
-opened-clean (Refused y) o e = e
+opened-clean : {log : List ℕ} {used : ℕ} {t : List ℕ} (r : Result Used Refusal) {t' : List ℕ} → Opens log used t r t' → ends 0 (items log used 0) ≡ used → ends 0 (items log (used_by r used) 0) ≡ used_by r used
+opened-clean (Ok u) o e = (open_grew (Ok u) o refl).clean
+opened-clean (Err y) o e = e
 
 pub run-clean : {b : Bool} {w : World} {T : Calls} → Run b w T → ends 0 (items w.log w.used 0) ≡ w.used
 run-clean (first log t {r = r} o) = opened-clean r o (grown_start 0 log).clean
@@ -175,7 +176,7 @@ module _ {w : World} {T : Calls} (R : Run true w T) where
   pub run_grew : Grew w
   run_grew = grew R refl
 
-  pub reopened : (t : List ℕ) → length w.table ≤ length t → length t % slot_words ≡ 0 → {r : Changed} {t' : List ℕ} → Opens w.log w.used t r t' → r ≡ Done (record { len = w.used })
+  pub reopened : (t : List ℕ) → length w.table ≤ length t → length t % slot_words ≡ 0 → {r : Result Used Refusal} {t' : List ℕ} → Opens w.log w.used t r t' → r ≡ Ok (record { len = w.used })
   reopened t h k o =
       let s = agrees-sound w.log w.used w.table ((run_holds R).ready refl) in
       grown_opens run_grew (sound-fit (record { small = s.small; within = s.within; whole = k })) (omega arith) o

@@ -2,12 +2,13 @@
 use Prim.Native.Nat.{◌≤◌}
 use mathlib.Core.Path.{◌≡◌, refl, sym, ap, ◌∙◌, subst}
 use mathlib.Core.Bool.{Bool, true, false, ◌||◌}
-use mathlib.Core.Option.{Option, some}
 use mathlib.Core.Logic.{inl, inr}
 use mathlib.Core.List.{List}
 use lib.Dec.{leb}
 use lib.ListN.{length}
 use borrow.Author.Tests.{le-leb}
+use Rattle.std.specs.Prelude.{Result, Ok, Err, Option, Some}
+use Rattle.keycode.specs.declared.refusal.Refusal.{Refusal}
 use Rattle.keycode.specs.Tests.{pick}
 use Rattle.keycode.specs.Limits.{max_key}
 use Rattle.keycode.specs.declared.refusal.Refusal.TheVariants.{Absent, KeyTooLong}
@@ -18,8 +19,6 @@ use Rattle.bitcask.specs.recovery.Recover.{map_of}
 use Rattle.bitcask.specs.engine.Rows.{rows_in}
 use Rattle.bitcask.specs.engine.Ranges.{keep_rows}
 use Rattle.bitcask.specs.recovery.Agree.{fit}
-use Rattle.bitcask.specs.declared.answers.Located.{Located}
-use Rattle.bitcask.specs.declared.answers.Located.TheVariants as Got
 use Rattle.mvcc.specs.declared.handle.Handle.{Handle}
 use Rattle.mvcc.specs.handle.Handles.{sound_handle}
 use Rattle.mvcc.specs.request.Checks.{admit_by, open_in}
@@ -74,17 +73,17 @@ module _ {w : World} {T : Calls} {m : Map} (k : Kept w T m) where
 
 -- ---- get
 
-passed_by_lem : (f g o b : Bool) (s : Seen) (r : Located) → r ≡ checked (admit_by f g o) (pick b (located_seen s) (Got.Refused KeyTooLong)) → f ≡ true → g ≡ true → o ≡ true → b ≡ true → r ≡ located_seen s
+passed_by_lem : (f g o b : Bool) (s : Seen) (r : Result Part Refusal) → r ≡ checked (admit_by f g o) (pick b (located_seen s) (Err KeyTooLong)) → f ≡ true → g ≡ true → o ≡ true → b ≡ true → r ≡ located_seen s
 unfolding admit_by
 passed_by_lem f g o b s r e p q i j = e ∙ rw (p, q, i, j)
 
-module _ {w : World} {T : Calls} {m : Map} (k : Kept w T m) (a : Ready w) {h : Handle} {f : Key → Option Bytes} (s : Sees T h f) (u : Usable T h) {key : Key} (l : length key ≤ max_key) {r : Located}
+module _ {w : World} {T : Calls} {m : Map} (k : Kept w T m) (a : Ready w) {h : Handle} {f : Key → Option Bytes} (s : Sees T h f) (u : Usable T h) {key : Key} (l : length key ≤ max_key) {r : Result Part Refusal}
     (b : Gets w.log w.used w.table h key r) where
   sound : Sound h
   sound = k.handles h (sees-given s)
 
-  value-is : value_for h (pairs_of (version_test key h.version) (map_of w.log w.used)) ≡ some (f key)
-  value-is = ap (λ (x : List Pair). value_for h (pairs_of (version_test key h.version) x)) k.map ∙ value-pairs h key sound.fits k.fine ∙ ap some (sees-shown k s u key)
+  value-is : value_for h (pairs_of (version_test key h.version) (map_of w.log w.used)) ≡ Some (f key)
+  value-is = ap (λ (x : List Pair). value_for h (pairs_of (version_test key h.version) x)) k.map ∙ value-pairs h key sound.fits k.fine ∙ ap Some (sees-shown k s u key)
 
   abbrev seen : Seen
   seen = last_rows h (keep_rows (version_test key h.version) (rows_in w.log w.used))
@@ -95,16 +94,16 @@ module _ {w : World} {T : Calls} {m : Map} (k : Kept w T m) (a : Ready w) {h : H
       passed_by_lem (fit (length w.log) w.used (length w.table)) (sound_handle h) (open_in w.log w.used h) (leb (length key) max_key) seen r (b.answer a) a.sound sound.sound
       (open_in_lem k sound u) (le-leb (length key) max_key l)
 
-  some_is : {x y : Option Bytes} → some x ≡ some y → x ≡ y
+  some_is : {x y : Option Bytes} → Some x ≡ Some y → x ≡ y
   some_is e = cc
 
   pub got-shows : Shows w.log r (f key)
   got-shows = go seen located
     where
-      at : (p : Part) → r ≡ Got.At p → Shows w.log r (f key)
+      at : (p : Part) → r ≡ Ok p → Shows w.log r (f key)
       at p e = subst (Shows w.log r) (some_is (sym (get_shows a b p e) ∙ value-is)) (p, e, refl)
 
-      absent : r ≡ Got.Refused Absent → Shows w.log r (f key)
+      absent : r ≡ Err Absent → Shows w.log r (f key)
       absent e = subst (Shows w.log r) (some_is (sym (get_none a b e) ∙ value-is)) e
 
       go : (x : Seen) → r ≡ located_seen x → Shows w.log r (f key)

@@ -2,7 +2,7 @@
 use Prim.Native.Nat.{ℕ, ◌-◌, ◌^◌, ◌≤◌}
 use mathlib.Core.Path.{◌≡◌, refl, ◌∙◌}
 use mathlib.Core.Bool.{Bool, true, false}
-use mathlib.Core.Option.{some}
+use Rattle.std.specs.Prelude.{Some}
 use mathlib.Core.List.{List}
 use native.Mathlib.Omega.{arith}
 use lib.Dec.{leb, eqb}
@@ -33,7 +33,7 @@ use Rattle.isolation.proofs.records.ActiveLaws.{actives_rise}
 use Rattle.isolation.proofs.KeptLaws.{Kept, Ready}
 use Rattle.isolation.proofs.BeganLaws.{begin_at, reading_at}
 
-starts_by : (log : List ℕ) (used words n : ℕ) (vs : List ℕ) (r : Begun) → length vs ≤ max_open → r ≡ begin_with log used words n (some vs)
+starts_by : (log : List ℕ) (used words n : ℕ) (vs : List ℕ) (r : Begun) → length vs ≤ max_open → r ≡ begin_with log used words n (Some vs)
     → Starts n vs (append_answer log used words (begin_plan n vs)) r
 starts_by log used words n vs r few e = go (eqb n (2 ^ 64 - 1)) refl (leb max_open (length vs)) refl e
   where

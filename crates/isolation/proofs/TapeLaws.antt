@@ -3,22 +3,20 @@ use Prim.Native.Nat.{ℕ, ◌+◌, ◌≤◌, ◌<◌}
 use mathlib.Core.Path.{◌≡◌, refl, sym, ap, ◌∙◌, subst}
 use mathlib.Core.Bool.{Bool, true, false}
 use mathlib.Core.Logic.{◌≢◌, ◌⊎◌, inl, inr}
-use mathlib.Core.Option.{Option, none, some}
 use mathlib.Core.List.{List, [], ◌++◌}
 use lib.Dec.{leb, ltb}
 use lib.ListN.{length}
 use borrow.Author.Tests.{le-leb, leb-true, leb-false, ltb-true, ltb-false}
+use Rattle.keycode.specs.declared.refusal.Refusal.{Refusal}
+use Rattle.bitcask.specs.declared.answers.KeyValue.{KeyValue}
+use Rattle.std.specs.Prelude.{Ok, Err, Result, Option, None, Some}
 use Rattle.keycode.specs.Tests.{pick}
 use Rattle.keycode.specs.Limits.{max_key}
 use Rattle.keycode.specs.Strings.{escape_body, plain_length}
 use Rattle.keycode.specs.declared.parts.Part.{Part}
-use Rattle.keycode.specs.declared.refusal.Length.TheVariants as Long
 use Rattle.keycode.specs.key.Keys.{version}
 use Rattle.keycode.proofs.Basics.{nope}
 use Rattle.keycode.proofs.StringLaws.{unescaped_body}
-use Rattle.bitcask.specs.declared.answers.Located.{Located}
-use Rattle.bitcask.specs.declared.answers.Stepped.{Stepped}
-use Rattle.bitcask.specs.declared.answers.Stepped.TheVariants as Step
 use Rattle.bitcask.specs.read.Promises.{stepped_number}
 use Rattle.mvcc.specs.declared.handle.Handle.{Handle}
 use Rattle.mvcc.specs.scan.Bounds.{prefix_fits}
@@ -48,20 +46,20 @@ use Rattle.isolation.proofs.Isolation.{prefix_shows}
 
 -- ---- one record
 
-pub value-shown : (log : List ℕ) (a : Located) (o : Option Bytes) → Shows log a o → got_bytes log a ≡ value_shown o
-value-shown log a none e = ap (got_bytes log) e
-value-shown log a (some v) (p, e, q) = ap (got_bytes log) e ∙ ap (λ (x : Bytes). value_shown (some x)) q
+pub value-shown : (log : List ℕ) (a : Result Part Refusal) (o : Option Bytes) → Shows log a o → got_bytes log a ≡ value_shown o
+value-shown log a None e = ap (got_bytes log) e
+value-shown log a (Some v) (p, e, q) = ap (got_bytes log) e ∙ ap (λ (x : Bytes). value_shown (Some x)) q
 
-shown_end : (log : List ℕ) (room n : ℕ) (s : Stepped) → stepped_number s ≡ 1 → shown_in log room n s ≡ last (laid 0 7 n [] [])
+shown_end : (log : List ℕ) (room n : ℕ) (s : Result KeyValue Refusal) → stepped_number s ≡ 1 → shown_in log room n s ≡ last (laid 0 7 n [] [])
 unfolding end_bytes
-shown_end log room n (Step.Next a b) e = nope (e)
-shown_end log room n (Step.Refused r) e = ap (λ (i : ℕ). last (end_bytes n i)) e
+shown_end log room n (Ok p) e = nope (e)
+shown_end log room n (Err r) e = ap (λ (i : ℕ). last (end_bytes n i)) e
 
-plain_body : (k : Key) → length k ≤ max_key → plain_length (escape_body k) ≡ Long.Done (length k)
+plain_body : (k : Key) → length k ≤ max_key → plain_length (escape_body k) ≡ Ok (length k)
 unfolding plain_length
 plain_body k l = rw ((unescaped_body k).0, (unescaped_body k).1, le-leb (length k) max_key l)
 
-shown-pair : (log : List ℕ) (room n : ℕ) (k v : Bytes) (a b : Part) {s : Stepped} → s ≡ Step.Next a b → bytes_at log a ≡ escape_body k → bytes_at log b ≡ v → length k ≤ max_key
+shown-pair : (log : List ℕ) (room n : ℕ) (k v : Bytes) (a b : Part) {s : Result KeyValue Refusal} → s ≡ Ok (record { key = a; value = b }) → bytes_at log a ≡ escape_body k → bytes_at log b ≡ v → length k ≤ max_key
     → shown_in log room n s ≡ pair_if (leb (length v) value_room) (ltb (n + 1) room) k v
 shown-pair log room n k v a b e p q l = ap (shown_in log room n) e ∙ rw (p, q, plain_body k l, (unescaped_body k).0)
 
@@ -91,17 +89,17 @@ pair_fits room n k v = go (leb (length v) value_room) refl (ltb (n + 1) room) re
     go false p c q = fails (inl (leb-false (length v) value_room p)) refl
 
 -- a key that shows a value is within the limit
-short-shown : {w : World} {T : Calls} {m : Map} → Kept w T m → (h : Handle) (k : Key) → shown m (sight_of h) k ≢ none → length k ≤ max_key
+short-shown : {w : World} {T : Calls} {m : Map} → Kept w T m → (h : Handle) (k : Key) → shown m (sight_of h) k ≢ None → length k ≤ max_key
 short-shown {m = m} kept h k n = go (shown_has order (run-sorted order kept.run) (sight_of h) k n)
   where
     go : HasKey k m → length k ≤ max_key
     go (has_key x o l) = (look-says kept.fine (version k x) (ver_rec k x o) l).1.1
 
 module _ {w : World} {T : Calls} (R : Run true w T) {h : Handle} {f : Key → Option Bytes} (s : Sees T h f) (u : Usable T h) (prefix : Key) (short : length prefix ≤ max_key) (room : ℕ) where
-  short-key : (k : Key) {v : Bytes} → f k ≡ some v → length k ≤ max_key
+  short-key : (k : Key) {v : Bytes} → f k ≡ Some v → length k ≤ max_key
   short-key k e = short-shown (run_holds R).kept h k (λ n. nope (cc (sym (sees-shown (run_holds R).kept s u k), e, n)))
 
-  stepped : (given : Bool) (before : Key) (r : Stepped) → prefix_fits prefix given before ≡ true → ScansPrefix w.log w.used w.table h prefix given before r
+  stepped : (given : Bool) (before : Key) (r : Result KeyValue Refusal) → prefix_fits prefix given before ≡ true → ScansPrefix w.log w.used w.table h prefix given before r
       → ShowsFirst f (prefix_past prefix given before) w.log r
   stepped given before r e b = prefix_shows R s u prefix given before e b
 
@@ -109,7 +107,7 @@ module _ {w : World} {T : Calls} (R : Run true w T) {h : Handle} {f : Key → Op
   fits-behind k l = rw (le-leb (length prefix) max_key short, le-leb (length k) max_key l)
 
   -- the scan's record for a step that shows so much
-  record_last : {given : Bool} {before : Key} {n : ℕ} {r : Stepped} {x : List ℕ} → ShowsFirst f (prefix_past prefix given before) w.log r → shown_in w.log room n r ≡ last x
+  record_last : {given : Bool} {before : Key} {n : ℕ} {r : Result KeyValue Refusal} {x : List ℕ} → ShowsFirst f (prefix_past prefix given before) w.log r → shown_in w.log room n r ≡ last x
       → Lists f prefix room given before n x
   record_last {n = n} {r = r} {x = x} (ends e a) q = all (none-shows refl a) (same-last (sym q ∙ shown_end w.log room n r e))
   record_last {given} {before} {n = n} {r = r} {x = x} (gives k v i j e p c t d l) q = go (pair_fits room n k v)
@@ -121,7 +119,7 @@ module _ {w : World} {T : Calls} (R : Run true w T) {h : Handle} {f : Key → Op
       go (fits g y z) = pair-last (sym z ∙ sym is ∙ q)
       go (fails g z) = full k v (first-shows k v refl t d l) g (same-last (sym q ∙ is ∙ z))
 
-  record_pair : {given : Bool} {before : Key} {n : ℕ} {r : Stepped} {key value y : List ℕ} → ShowsFirst f (prefix_past prefix given before) w.log r → shown_in w.log room n r ≡ pair key value
+  record_pair : {given : Bool} {before : Key} {n : ℕ} {r : Result KeyValue Refusal} {key value y : List ℕ} → ShowsFirst f (prefix_past prefix given before) w.log r → shown_in w.log room n r ≡ pair key value
       → (length key ≤ max_key → Lists f prefix room true key (n + 1) y) → Lists f prefix room given before n (laid 0 7 0 key value ++ y)
   record_pair {n = n} {r = r} (ends e a) q rest = pair-last (sym q ∙ shown_end w.log room n r e)
   record_pair {given} {before} {n = n} {r = r} {key = key} {value = value} {y = y} (gives k v i j e p c t d l) q rest = go (pair_fits room n k v)

@@ -5,21 +5,20 @@ use Prim.Native.Nat.{ℕ, ◌≤◌}
 use mathlib.Core.Path.{◌≡◌, refl, ap, ◌∙◌, subst}
 use mathlib.Core.Bool.{Bool, true, false}
 use mathlib.Core.Logic.{◌≢◌, ◌⊎◌}
-use mathlib.Core.Option.{Option, none, some}
 use mathlib.Core.List.{List, [], ◌∷◌}
 use native.Mathlib.Omega.{arith}
 use lib.Dec.{eqb}
 use lib.ListN.{length}
 use borrow.Author.Tests.{le-leb}
+use Rattle.std.specs.Prelude.{Result, Ok, Err, Option, None, Some}
+use Rattle.bitcask.specs.declared.request.Used.{Used}
+use Rattle.keycode.specs.declared.refusal.Refusal.{Refusal}
 use Rattle.keycode.specs.Tests.{pick}
 use Rattle.keycode.specs.Limits.{max_key, max_value}
 use Rattle.keycode.specs.declared.refusal.Refusal.TheVariants.{ReadOnly}
-use Rattle.bitcask.specs.declared.request.Changed.{Changed}
-use Rattle.bitcask.specs.declared.request.Changed.TheVariants as Change
 use Rattle.bitcask.specs.recovery.Recover.{map_of}
 use Rattle.bitcask.specs.recovery.Promises.{changed_number}
 use Rattle.bitcask.specs.change.Append.{append_answer}
-use Rattle.bitcask.specs.declared.report.Counted.TheVariants as Count
 use Rattle.bitcask.specs.compaction.Promises.{counts_of}
 use Rattle.mvcc.specs.declared.handle.Handle.{Handle}
 use Rattle.mvcc.specs.handle.Handles.{handle_of}
@@ -100,21 +99,21 @@ module _ {w : World} {T : Calls} (R : Run true w T) where
   -- Commands 5 and 6: Conflict exactly in its case, else what the room says.
   pub tape_writes : {T₁ : Calls} {b : Begun} {h : Handle} → After (begins b ∷ T₁) T → Gave b h → status (meaning T) h.version ≡ opened → {c : ℕ} {k v : List ℕ} {w' : World} {x : List ℕ}
       → length k ≤ max_key → length v ≤ max_value → Written w h c k v w' x
-      → (a : Changed) × ((x ≡ plainly (changed_number a) c) × Meets T h k (append_answer w.log w.used (length w.table) (plan h.version k (value_bytes (written_by c v)))) a)
+      → (a : Result Used Refusal) × ((x ≡ plainly (changed_number a) c) × Meets T h k (append_answer w.log w.used (length w.table) (plan h.version k (value_bytes (written_by c v)))) a)
   unfolding write_call
   tape_writes {h = h} f g is {c} {k} {v} {w'} l z (written a p) = (a, (refl, go (eqb c 5) (means p)))
     where
       go : (b : Bool) → Means w (pick b (sets h k v a) (deletes h k a)) w'
-          → Meets T h k (append_answer w.log w.used (length w.table) (plan h.version k (value_bytes (pick b (some v) none)))) a
-      go true m = write_conflicts R f g is l (some v) z m.so
-      go false m = write_conflicts R f g is l none (omega arith) m.so
+          → Meets T h k (append_answer w.log w.used (length w.table) (plan h.version k (value_bytes (pick b (Some v) None)))) a
+      go true m = write_conflicts R f g is l (Some v) z m.so
+      go false m = write_conflicts R f g is l None (omega arith) m.so
 
   -- With a read-only handle they answer 2.
   pub tape_writes_not : {h : Handle} → Given h T → h.read_only ≡ true → {c : ℕ} {k v : List ℕ} {w' : World} {x : List ℕ} → Written w h c k v w' x → x ≡ plainly 2 c
   unfolding write_call
-  tape_writes_not {h} g e {c} {k} {v} {w'} (written a p) = ap (λ (b : Changed). plainly (changed_number b) c) (go (eqb c 5) (means p))
+  tape_writes_not {h} g e {c} {k} {v} {w'} (written a p) = ap (λ (b : Result Used Refusal). plainly (changed_number b) c) (go (eqb c 5) (means p))
     where
-      go : (b : Bool) → Means w (pick b (sets h k v a) (deletes h k a)) w' → a ≡ Change.Refused ReadOnly
+      go : (b : Bool) → Means w (pick b (sets h k v a) (deletes h k a)) w' → a ≡ Err ReadOnly
       go true m = write_refused R g e m.so
       go false m = write_refused R g e m.so
 
@@ -131,7 +130,7 @@ module _ {w : World} {T : Calls} (R : Run true w T) where
     tape_commits {w'} e (ended a p) =
         let m = means (subst (λ (c : ℕ). Step w (end_call c h a) w') e p) in
         let r = commit_exact R g u m.so in
-        (ap (plainly (changed_number a)) e ∙ ap (λ (b : Changed). plainly (changed_number b) 8) r, ap (emptied_by slots q.slot) r)
+        (ap (plainly (changed_number a)) e ∙ ap (λ (b : Result Used Refusal). plainly (changed_number b) 8) r, ap (emptied_by slots q.slot) r)
 
     pub tape_rolls : {w' : World} {s x : List ℕ} → q.command ≡ 9 → Ended w h slots q w' s x
         → (x ≡ plainly (changed_number (ended_in w (rollback_plan h (map_of w.log w.used)))) 9) × (s ≡ emptied_by slots q.slot (ended_in w (rollback_plan h (map_of w.log w.used))))
@@ -139,11 +138,11 @@ module _ {w : World} {T : Calls} (R : Run true w T) where
     tape_rolls {w'} e (ended a p) =
         let m = means (subst (λ (c : ℕ). Step w (end_call c h a) w') e p) in
         let r = rollback_exact R g u m.so in
-        (ap (plainly (changed_number a)) e ∙ ap (λ (b : Changed). plainly (changed_number b) 9) r, ap (emptied_by slots q.slot) r)
+        (ap (plainly (changed_number a)) e ∙ ap (λ (b : Result Used Refusal). plainly (changed_number b) 9) r, ap (emptied_by slots q.slot) r)
 
   -- Command 10: the used length of the live entries, 7 where they do not fit the other buffer; command 11: how many keys are live.
   pub tape_compacts : {spare : List ℕ} {u : ℕ} {d : Bool} {t g x : List ℕ} → Tidied w.log w.used w.table spare u d t g x → x ≡ used_bytes (compacted_in w (length spare))
   tape_compacts (tidied a p) = ap used_bytes (compact_answers R p)
 
-  pub tape_counts : {x : List ℕ} → Told w x → x ≡ count_bytes (Count.Done (counts_of (map_of w.log w.used) w.used))
+  pub tape_counts : {x : List ℕ} → Told w x → x ≡ count_bytes (Ok (counts_of (map_of w.log w.used) w.used))
   tape_counts (told a p) = ap count_bytes (count-answers R (means p).0)

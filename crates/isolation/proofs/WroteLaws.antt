@@ -3,13 +3,13 @@
 use Prim.Native.Nat.{ℕ, suc, ◌+◌, ◌<◌, ◌≤◌}
 use mathlib.Core.Path.{◌≡◌, refl, sym, ap, ◌∙◌, subst}
 use mathlib.Core.Bool.{Bool, true, false, not, ◌||◌}
-use mathlib.Core.Option.{Option, none, some}
 use mathlib.Core.List.{List, ◌∷◌}
 use native.Mathlib.Decide.{dec_le}
 use native.Mathlib.Omega.{arith}
 use lib.Dec.{leb, ltb}
 use lib.ListN.{length}
 use borrow.Author.Tests.{leb-true, le-leb, lt-leb, lt-ltb, le-ltb}
+use Rattle.std.specs.Prelude.{Result, Ok, Err, ⊤, Option, None, Some}
 use Rattle.keycode.specs.Tests.{pick, if_done}
 use Rattle.keycode.specs.Buffer.{put}
 use Rattle.keycode.specs.Limits.{max_key, max_value}
@@ -19,14 +19,10 @@ use Rattle.keycode.specs.declared.refusal.Refusal.TheVariants.{Absent, ReadOnly,
 use Rattle.keycode.proofs.Basics.{nope}
 use Rattle.keycode.specs.key.Keys.{txn_active}
 use Rattle.bitcask.specs.declared.request.Used.{Used}
-use Rattle.bitcask.specs.declared.request.Changed.{Changed}
-use Rattle.bitcask.specs.declared.request.Changed.TheVariants as Change
 use Rattle.bitcask.specs.recovery.Map.{Pair, pairs_of, live_in}
 use Rattle.bitcask.specs.recovery.Recover.{map_of}
 use Rattle.bitcask.specs.recovery.Agree.{fit, Agrees}
 use Rattle.bitcask.specs.recovery.Promises.{changed_number}
-use Rattle.bitcask.specs.declared.append.Check.{Check}
-use Rattle.bitcask.specs.declared.append.Check.TheVariants.{Fine, Refused}
 use Rattle.bitcask.specs.change.Append.{size_all, bytes_all, after_all, append_answer}
 use Rattle.mvcc.specs.declared.handle.Handle.{Handle}
 use Rattle.mvcc.specs.handle.Handles.{sound_handle}
@@ -61,11 +57,11 @@ use Rattle.isolation.proofs.KeptLaws.{Sound, Kept, Ready, agrees_at, refused_sam
 -- ---- the number
 
 -- what the tests before the room say: all are passed, and the rest decides; or the number is the first test's that is not
-pub data Judged (short : Bool) (n : ℕ) (x r : Changed) : Type 0 where
+pub data Judged (short : Bool) (n : ℕ) (x r : Result Used Refusal) : Type 0 where
   passed : n ≡ 0 → short ≡ true → r ≡ x → Judged short n x r
   stopped : (j : ℕ) → n ≡ suc j → changed_number r ≡ suc j → Judged short n x r
 
-judged : (ro live short small clash : Bool) (x r : Changed) → r ≡ or_else (pick ro (Refused ReadOnly) (pick live (sizes_by short small) (Refused NotOpen))) (or_else (pick clash (Refused Conflict) Fine) x)
+judged : (ro live short small clash : Bool) (x r : Result Used Refusal) → r ≡ or_else (pick ro (Err ReadOnly) (pick live (sizes_by short small) (Err NotOpen))) (or_else (pick clash (Err Conflict) (Ok tt)) x)
     → Judged short (H.pick ro 2 (H.pick (not live) 3 (H.pick (not short) 4 (H.pick (not small) 5 (H.pick clash 6 0))))) x r
 unfolding sizes_by
 judged true live short small clash x r e = stopped 1 refl (ap changed_number e)
@@ -83,8 +79,8 @@ not_short n = go (dec_le n 64)
     go (no h) = let l : 64 < n = omega arith in rw (lt-ltb 64 n l, lt-leb n max_key l)
 
 not_small : (o : Option Bytes) → too_long o ≡ not (leb (size_in o) max_value)
-not_small none = refl
-not_small (some v) = go (dec_le (length v) 4096)
+not_small None = refl
+not_small (Some v) = go (dec_le (length v) 4096)
   where
     go : Dec (length v ≤ 4096) → ltb 4096 (length v) ≡ not (leb (length v) max_value)
     go (yes h) = rw (le-ltb 4096 (length v) h, le-leb (length v) max_value h)
@@ -111,17 +107,17 @@ number_is : (m : Map) (h : Sight) (k : Key) (o : Option Bytes)
 unfolding write_number
 number_is m h k o = rw (not_short (length k), not_small o)
 
-by_answer : (f g ro o short small : Bool) (c : Check) (x r : Changed) → f ≡ true → g ≡ true → r ≡ or_else (allow_by f g ro o short small) (or_else c x)
-    → r ≡ or_else (pick ro (Refused ReadOnly) (pick o (sizes_by short small) (Refused NotOpen))) (or_else c x)
+by_answer : (f g ro o short small : Bool) (c : Result ⊤ Refusal) (x r : Result Used Refusal) → f ≡ true → g ≡ true → r ≡ or_else (allow_by f g ro o short small) (or_else c x)
+    → r ≡ or_else (pick ro (Err ReadOnly) (pick o (sizes_by short small) (Err NotOpen))) (or_else c x)
 unfolding allow_by
 by_answer f g ro o short small c x r p q e = e ∙ rw (p, q)
 
 -- the rest of the tests does not count for a read-only handle
-read_only_stops : (ro o o' short small : Bool) (c c' : Check) (x r : Changed) → ro ≡ true → r ≡ or_else (pick ro (Refused ReadOnly) (pick o (sizes_by short small) (Refused NotOpen))) (or_else c x)
-    → r ≡ or_else (pick ro (Refused ReadOnly) (pick o' (sizes_by short small) (Refused NotOpen))) (or_else c' x)
+read_only_stops : (ro o o' short small : Bool) (c c' : Result ⊤ Refusal) (x r : Result Used Refusal) → ro ≡ true → r ≡ or_else (pick ro (Err ReadOnly) (pick o (sizes_by short small) (Err NotOpen))) (or_else c x)
+    → r ≡ or_else (pick ro (Err ReadOnly) (pick o' (sizes_by short small) (Err NotOpen))) (or_else c' x)
 read_only_stops ro o o' short small c c' x r p e = e ∙ rw p
 
-module _ {w : World} {T : Calls} {m : Map} (k : Kept w T m) (a : Ready w) {h : Handle} (s : Sound h) {key : List ℕ} (o : Option Bytes) {r : Changed} {log t : List ℕ}
+module _ {w : World} {T : Calls} {m : Map} (k : Kept w T m) (a : Ready w) {h : Handle} (s : Sound h) {key : List ℕ} (o : Option Bytes) {r : Result Used Refusal} {log t : List ℕ}
     (b : Writes w.log w.used w.table h key (value_bytes o) (size_in o) r log t) where
   sorted : Sorted key_order m
   sorted = run-sorted order k.run
@@ -132,10 +128,10 @@ module _ {w : World} {T : Calls} {m : Map} (k : Kept w T m) (a : Ready w) {h : H
   abbrev small : Bool
   small = leb (size_in o) max_value
 
-  abbrev rest : Changed
+  abbrev rest : Result Used Refusal
   rest = append_answer w.log w.used (length w.table) (plan h.version key (value_bytes o))
 
-  abbrev search : Check
+  abbrev search : Result ⊤ Refusal
   search = search_by h (pairs_of (searched h key) (map_of w.log w.used))
 
   abbrev opens : Bool
@@ -144,21 +140,21 @@ module _ {w : World} {T : Calls} {m : Map} (k : Kept w T m) (a : Ready w) {h : H
   abbrev live : Bool
   live = is_some (look m (txn_active h.version))
 
-  answered : r ≡ or_else (pick h.read_only (Refused ReadOnly) (pick opens (sizes_by short small) (Refused NotOpen))) (or_else search rest)
+  answered : r ≡ or_else (pick h.read_only (Err ReadOnly) (pick opens (sizes_by short small) (Err NotOpen))) (or_else search rest)
   unfolding write_answer
   answered = by_answer (fit (length w.log) w.used (length w.table)) (sound_handle h) h.read_only opens short small search rest r a.sound s.sound (b.answer a)
 
-  answered_so : r ≡ or_else (pick h.read_only (Refused ReadOnly) (pick live (sizes_by short small) (Refused NotOpen))) (or_else (pick (conflict m (sight_of h) key) (Refused Conflict) Fine) rest)
+  answered_so : r ≡ or_else (pick h.read_only (Err ReadOnly) (pick live (sizes_by short small) (Err NotOpen))) (or_else (pick (conflict m (sight_of h) key) (Err Conflict) (Ok tt)) rest)
   answered_so = go h.read_only refl
     where
       go : (i : Bool) → h.read_only ≡ i
-          → r ≡ or_else (pick h.read_only (Refused ReadOnly) (pick live (sizes_by short small) (Refused NotOpen))) (or_else (pick (conflict m (sight_of h) key) (Refused Conflict) Fine) rest)
-      go true e = read_only_stops h.read_only opens live short small search (pick (conflict m (sight_of h) key) (Refused Conflict) Fine) rest r e answered
+          → r ≡ or_else (pick h.read_only (Err ReadOnly) (pick live (sizes_by short small) (Err NotOpen))) (or_else (pick (conflict m (sight_of h) key) (Err Conflict) (Ok tt)) rest)
+      go true e = read_only_stops h.read_only opens live short small search (pick (conflict m (sight_of h) key) (Err Conflict) (Ok tt)) rest r e answered
       go false e =
           let v = s.own e in
           let p : opens ≡ live = open_usable k s ∙ ap (λ (b : Bool). b || live) e in
-          let q : search ≡ pick (conflict m (sight_of h) key) (Refused Conflict) Fine = ap (λ (x : List Pair). search_by h (pairs_of (searched h key) x)) k.map ∙ search_pairs h e v.1 s.set key k.fine in
-          answered ∙ (λ j. or_else (pick h.read_only (Refused ReadOnly) (pick (p j) (sizes_by short small) (Refused NotOpen))) (or_else (q j) rest))
+          let q : search ≡ pick (conflict m (sight_of h) key) (Err Conflict) (Ok tt) = ap (λ (x : List Pair). search_by h (pairs_of (searched h key) x)) k.map ∙ search_pairs h e v.1 s.set key k.fine in
+          answered ∙ (λ j. or_else (pick h.read_only (Err ReadOnly) (pick (p j) (sizes_by short small) (Err NotOpen))) (or_else (q j) rest))
 
   pub write_judged : Judged short (write_number m (sight_of h) key o) rest r
   write_judged =
@@ -176,7 +172,7 @@ module _ {w : World} {T : Calls} {m : Map} (k : Kept w T m) (a : Ready w) {h : H
     at-number : {x : Map} (n : ℕ) → changed_number r ≡ n → H.Run key_order x (write_e (sight_of h) key o n ∷ trace_of T) → H.Run key_order x (entry_of c ∷ trace_of T)
     at-number n e q = rw (entry, e) q
 
-    made_done : (u : Used) → r ≡ Change.Done u → Kept (record { log = log; used = u.len; table = t }) (c ∷ T) (write_map key_order h.version key o m) × Agrees log u.len t
+    made_done : (u : Used) → r ≡ Ok u → Kept (record { log = log; used = u.len; table = t }) (c ∷ T) (write_map key_order h.version key o m) × Agrees log u.len t
     unfolding trace_of
     made_done u e = go write_judged
       where
@@ -198,7 +194,7 @@ module _ {w : World} {T : Calls} {m : Map} (k : Kept w T m) (a : Ready w) {h : H
         )
         go (stopped j n x) = nope (cc (z, x))
 
-    made_refused : (y : Refusal) → r ≡ Change.Refused y → Kept (record { log = log; used = w.used; table = t }) (c ∷ T) m × Agrees log w.used t
+    made_refused : (y : Refusal) → r ≡ Err y → Kept (record { log = log; used = w.used; table = t }) (c ∷ T) m × Agrees log w.used t
     unfolding trace_of
     made_refused y e = (
       record {
@@ -226,6 +222,6 @@ module _ {w : World} {T : Calls} {m : Map} (k : Kept w T m) (a : Ready w) {h : H
     pub made_write : (m' : Map) × (Kept (changed_to w r log t) (c ∷ T) m' × Ready (changed_to w r log t))
     made_write = by r refl
       where
-        by : (x : Changed) → r ≡ x → (m' : Map) × (Kept (changed_to w x log t) (c ∷ T) m' × Ready (changed_to w x log t))
-        by (Change.Done u) e = (write_map key_order h.version key o m, made_done u e)
-        by (Change.Refused y) e = (m, made_refused y e)
+        by : (x : Result Used Refusal) → r ≡ x → (m' : Map) × (Kept (changed_to w x log t) (c ∷ T) m' × Ready (changed_to w x log t))
+        by (Ok u) e = (write_map key_order h.version key o m, made_done u e)
+        by (Err y) e = (m, made_refused y e)

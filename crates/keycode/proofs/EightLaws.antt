@@ -6,7 +6,7 @@ use mathlib.Core.List.{List, [], ◌∷◌, ◌++◌}
 use native.Mathlib.Omega.{arith}
 use lib.ListN.{length, take, drop, get_or, length-drop, take-append-drop}
 use lib.Seq.{get_or-drop, drop-drop, length-take-le}
-use Rattle.keycode.specs.declared.order.Order.TheVariants.{Less, Greater}
+use Rattle.std.specs.declared.cmp.Ordering.TheVariants.{Less, Greater}
 use Rattle.keycode.specs.Number.{be, num, num_from}
 use Rattle.keycode.specs.Order.{compare_nat, compare_bytes, and_then}
 use Rattle.keycode.proofs.OrderLaws.{nat_less, nat_greater, nat_equal}

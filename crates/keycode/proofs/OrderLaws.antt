@@ -9,8 +9,8 @@ use native.Mathlib.Numerals.{add-one}
 use lib.ListN.{length, drop, get_or, drop_of_length-le}
 use lib.Seq.{drop-cons}
 use borrow.Author.Tests.{lt-ltb, le-ltb}
-use Rattle.keycode.specs.declared.order.Order.{Order}
-use Rattle.keycode.specs.declared.order.Order.TheVariants.{Less, Equal, Greater}
+use Rattle.std.specs.declared.cmp.Ordering.{Ordering}
+use Rattle.std.specs.declared.cmp.Ordering.TheVariants.{Less, Equal, Greater}
 use Rattle.keycode.specs.Order.{compare_bytes, compare_nat, and_then}
 use Rattle.keycode.proofs.Basics.{nope, Ordered, below, same, above, ordered}
 
@@ -28,12 +28,12 @@ pub nat_equal : (x y : ℕ) → x ≡ y → compare_nat x y ≡ Equal
 unfolding compare_nat
 nat_equal x y e = simp (le-ltb x y (le_of_eq (sym e)), le-ltb y x (le_of_eq e))
 
-pub and_then_assoc : (a b c : Order) → and_then (and_then a b) c ≡ and_then a (and_then b c)
+pub and_then_assoc : (a b c : Ordering) → and_then (and_then a b) c ≡ and_then a (and_then b c)
 and_then_assoc Less b c = refl
 and_then_assoc Equal b c = refl
 and_then_assoc Greater b c = refl
 
-pub and_then_equal : (a : Order) → and_then a Equal ≡ a
+pub and_then_equal : (a : Ordering) → and_then a Equal ≡ a
 and_then_equal Less = refl
 and_then_equal Equal = refl
 and_then_equal Greater = refl
@@ -68,12 +68,12 @@ module _ (a b : List ℕ) (i : ℕ) (h : i < length a) (g : i < length b) where
 
 -- ---- the order is total
 
-abbrev pub flip : Order → Order
+abbrev pub flip : Ordering → Ordering
 flip Less = Greater
 flip Equal = Equal
 flip Greater = Less
 
-flip_then : (a b : Order) → flip (and_then a b) ≡ and_then (flip a) (flip b)
+flip_then : (a b : Ordering) → flip (and_then a b) ≡ and_then (flip a) (flip b)
 flip_then Less b = refl
 flip_then Equal b = refl
 flip_then Greater b = refl
@@ -103,7 +103,7 @@ compare_refl [] = unfold compare_bytes in refl
 compare_refl (x ∷ a) = same_head x a a ∙ compare_refl a
 
 -- what a head and a tail say together
-pub less_cases : (x y : ℕ) (o : Order) → and_then (compare_nat x y) o ≡ Less → (x < y) ⊎ ((x ≡ y) × (o ≡ Less))
+pub less_cases : (x y : ℕ) (o : Ordering) → and_then (compare_nat x y) o ≡ Less → (x < y) ⊎ ((x ≡ y) × (o ≡ Less))
 less_cases x y o e = go (ordered x y)
   where
     go : Ordered x y → (x < y) ⊎ ((x ≡ y) × (o ≡ Less))
@@ -123,10 +123,10 @@ compare_equal (x ∷ a) (y ∷ b) e = go (ordered x y) (λ f. compare_equal a b 
     go (same f) ih = let t : a ≡ b = ih (rw (nat_equal x y f) at e) in cc
     go (above h) ih = let k : Greater ≡ Equal = rw (nat_greater x y h) at e in nope (cc)
 
-pub head_less : (x y : ℕ) (o : Order) → x < y → and_then (compare_nat x y) o ≡ Less
+pub head_less : (x y : ℕ) (o : Ordering) → x < y → and_then (compare_nat x y) o ≡ Less
 head_less x y o h = rw (nat_less x y h)
 
-tail_less : (x y : ℕ) (o : Order) → x ≡ y → o ≡ Less → and_then (compare_nat x y) o ≡ Less
+tail_less : (x y : ℕ) (o : Ordering) → x ≡ y → o ≡ Less → and_then (compare_nat x y) o ≡ Less
 tail_less x y o e h = rw (nat_equal x y e, h)
 
 pub compare_trans : (a b c : List ℕ) → compare_bytes a b ≡ Less → compare_bytes b c ≡ Less → compare_bytes a c ≡ Less

@@ -11,7 +11,7 @@ use lib.ListN.{length, take, get_or}
 use lib.Seq.{take-suc, length-take-le}
 use lib.Dec.{ltb}
 use borrow.Author.Tests.{ltb-false, lt-ltb, le-ltb}
-use Rattle.keycode.specs.declared.order.Order.TheVariants.{Less, Greater}
+use Rattle.std.specs.declared.cmp.Ordering.TheVariants.{Less, Greater}
 use Rattle.keycode.specs.declared.prefix.End.{End}
 use Rattle.keycode.specs.declared.prefix.End.TheVariants.{Unbounded, Raised}
 use Rattle.keycode.specs.Tests.{pick}

@@ -4,7 +4,7 @@ use Prim.Native.Nat.{ℕ, zero, suc, ◌^◌, ◌<◌}
 use mathlib.Core.Path.{◌≡◌, refl, sym, ◌∙◌}
 use mathlib.Core.List.{List, [], ◌∷◌, ◌++◌, append_assoc, append-nil}
 use native.Mathlib.Omega.{arith}
-use Rattle.keycode.specs.declared.order.Order.{Order}
+use Rattle.std.specs.declared.cmp.Ordering.{Ordering}
 use Rattle.keycode.specs.Number.{be}
 use Rattle.keycode.specs.Order.{compare_nat, compare_bytes, and_then}
 use Rattle.keycode.specs.Strings.{escape_byte, escape_body, escape}
@@ -12,7 +12,7 @@ use Rattle.keycode.proofs.OrderLaws.{nat_less, nat_greater, and_then_assoc, and_
 use Rattle.keycode.proofs.NumberLaws.{compare_be}
 
 -- bytes of a field that sort as the field does, whatever follows them
-pub record Sorts {A : Type 0} (Good : A → Type 0) (enc : A → List ℕ) (cmp : A → A → Order) : Type 0 where
+pub record Sorts {A : Type 0} (Good : A → Type 0) (enc : A → List ℕ) (cmp : A → A → Ordering) : Type 0 where
   pub sorted : (a b : A) → Good a → Good b → (s t : List ℕ) → compare_bytes (enc a ++ s) (enc b ++ t) ≡ and_then (cmp a b) (compare_bytes s t)
 
 pub number_sorts : (k : ℕ) → Sorts (λ v. v < 256 ^ k) (be k) compare_nat
@@ -34,7 +34,7 @@ pub string_sorts : Sorts (λ (s : List ℕ). Unit {0}) escape compare_bytes
 string_sorts = record { sorted = λ a b h g s t. compare_escape a b s t }
 
 -- two fields, one behind the other
-pub both_sort : {A B : Type 0} {P : A → Type 0} {Q : B → Type 0} {f : A → List ℕ} {g : B → List ℕ} {p : A → A → Order} {q : B → B → Order}
+pub both_sort : {A B : Type 0} {P : A → Type 0} {Q : B → Type 0} {f : A → List ℕ} {g : B → List ℕ} {p : A → A → Ordering} {q : B → B → Ordering}
     → Sorts P f p → Sorts Q g q → Sorts (λ (x : A × B). P x.0 × Q x.1) (λ x. f x.0 ++ g x.1) (λ x y. and_then (p x.0 y.0) (q x.1 y.1))
 both_sort {f = f} {g = g} {p = p} {q = q} sp sq =
     record {
@@ -45,6 +45,6 @@ both_sort {f = f} {g = g} {p = p} {q = q} sp sq =
     }
 
 -- with nothing behind them
-pub alone : {A : Type 0} {P : A → Type 0} {f : A → List ℕ} {p : A → A → Order} → Sorts P f p → (a b : A) → P a → P b → compare_bytes (f a) (f b) ≡ p a b
+pub alone : {A : Type 0} {P : A → Type 0} {f : A → List ℕ} {p : A → A → Ordering} → Sorts P f p → (a b : A) → P a → P b → compare_bytes (f a) (f b) ≡ p a b
 unfolding compare_bytes
 alone {f = f} {p = p} sp a b h k = rw (append-nil (f a), append-nil (f b)) at (sp.sorted a b h k [] []) ∙ and_then_equal (p a b)

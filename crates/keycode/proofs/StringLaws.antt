@@ -11,14 +11,12 @@ use lib.ListN.{length, drop, get_or, set, length-append, length-drop, drop_of_le
 use lib.Seq.{drop-cons, drop-drop}
 use lib.Dec.{eqb, leb}
 use borrow.Author.Tests.{ne_eqb, eqb-true, le-leb, lt-leb, leb-true}
-use Rattle.keycode.specs.declared.refusal.Length.TheVariants.{Done, Refused}
+use Rattle.std.specs.Prelude.{Ok, Err, Result, ℕ}
 use Rattle.keycode.specs.declared.refusal.Refusal.TheVariants.{BadStore}
 use Rattle.keycode.specs.declared.strings.Fault.{Fault}
 use Rattle.keycode.specs.declared.strings.Reason.TheVariants.{BadEscape, NoEnd, OverLimit}
 use Rattle.keycode.specs.declared.strings.Step.{Step}
 use Rattle.keycode.specs.declared.strings.Step.TheVariants.{Byte, Closed, Bad}
-use Rattle.keycode.specs.declared.strings.Scanned.{Scanned}
-use Rattle.keycode.specs.declared.strings.Scanned.TheVariants.{Ended, Broken}
 use Rattle.keycode.specs.Tests.{pick}
 use Rattle.keycode.specs.Limits.{max_key}
 use Rattle.keycode.specs.Buffer.{put}
@@ -164,7 +162,7 @@ stepped i b j (zero ∷ suc y ∷ r) e = go (eqb (suc y) 255) refl e
     go false f p = nope (cc)
 stepped i b j (suc x ∷ r) e = let eb : b ≡ suc x = cc in let ej : j ≡ i + 1 = cc in rw (eb, ej) (refl, refl)
 
-closed_ill : (i : ℕ) (r : List ℕ) → step_at i r ≡ Closed → (well_escaped r ≡ false) × ((left : ℕ) → scanned left i r ≡ Ended i)
+closed_ill : (i : ℕ) (r : List ℕ) → step_at i r ≡ Closed → (well_escaped r ≡ false) × ((left : ℕ) → scanned left i r ≡ Ok i)
 unfolding step_at well_escaped scanned
 closed_ill i [] e = nope (cc)
 closed_ill i (zero ∷ []) e = nope (cc)
@@ -172,12 +170,12 @@ closed_ill i (zero ∷ zero ∷ r) e = (refl, λ left. refl)
 closed_ill i (zero ∷ suc y ∷ r) e = go (eqb (suc y) 255) e
   where
     go : (t : Bool) → pick t (Byte 0 (i + 2)) (Bad (fault BadEscape (i + 1))) ≡ Closed
-        → (pick t (well_escaped r) false ≡ false) × ((left : ℕ) → pick t (one_more left (i + 1) (λ l. scanned l (i + 2) r)) (Broken (fault BadEscape (i + 1))) ≡ Ended i)
+        → (pick t (well_escaped r) false ≡ false) × ((left : ℕ) → pick t (one_more left (i + 1) (λ l. scanned l (i + 2) r)) (Err (fault BadEscape (i + 1))) ≡ Ok i)
     go true p = nope (cc)
     go false p = nope (cc)
 closed_ill i (suc x ∷ r) e = nope (cc)
 
-bad_ill : (i : ℕ) (r : List ℕ) (w : Fault) → step_at i r ≡ Bad w → (0 < length r → well_escaped r ≡ false) × ((left : ℕ) → scanned left i r ≡ Broken w)
+bad_ill : (i : ℕ) (r : List ℕ) (w : Fault) → step_at i r ≡ Bad w → (0 < length r → well_escaped r ≡ false) × ((left : ℕ) → scanned left i r ≡ Err w)
 unfolding step_at well_escaped scanned
 bad_ill i [] w e = (λ h. absurd (omega arith), λ left. cc)
 bad_ill i (zero ∷ []) w e = (λ h. refl, λ left. cc)
@@ -185,7 +183,7 @@ bad_ill i (zero ∷ zero ∷ r) w e = nope (cc)
 bad_ill i (zero ∷ suc y ∷ r) w e = go (eqb (suc y) 255) e
   where
     go : (t : Bool) → pick t (Byte 0 (i + 2)) (Bad (fault BadEscape (i + 1))) ≡ Bad w
-        → (0 < length (0 ∷ suc y ∷ r) → pick t (well_escaped r) false ≡ false) × ((left : ℕ) → pick t (one_more left (i + 1) (λ l. scanned l (i + 2) r)) (Broken (fault BadEscape (i + 1))) ≡ Broken w)
+        → (0 < length (0 ∷ suc y ∷ r) → pick t (well_escaped r) false ≡ false) × ((left : ℕ) → pick t (one_more left (i + 1) (λ l. scanned l (i + 2) r)) (Err (fault BadEscape (i + 1))) ≡ Err w)
     go true p = nope (cc)
     go false p = (λ h. refl, λ left. cc)
 bad_ill i (suc x ∷ r) w e = nope (cc)
@@ -209,16 +207,16 @@ module _ (s : List ℕ) (i : ℕ) (h : i ≤ length s) (got : Step) (e : got ≡
       let l : length s - i ≡ length (escape_byte b) + (length s - j) = sym (length-drop i s) ∙ ap length f ∙ length-append (escape_byte b) (drop j s) ∙ ap (λ (k : ℕ). length (escape_byte b) + k) (length-drop j s) in
       record { next = q.0; here = f; within = omega (arith, (byte_length b).0) }
 
-  pub closed_here : got ≡ Closed → (well_escaped (drop i s) ≡ false) × ((left : ℕ) → scanned left i (drop i s) ≡ Ended i)
+  pub closed_here : got ≡ Closed → (well_escaped (drop i s) ≡ false) × ((left : ℕ) → scanned left i (drop i s) ≡ Ok i)
   closed_here p = closed_ill i (drop i s) (sym e ∙ p)
 
-  pub bad-here : (w : Fault) → got ≡ Bad w → (i < length s → well_escaped (drop i s) ≡ false) × ((left : ℕ) → scanned left i (drop i s) ≡ Broken w)
+  pub bad-here : (w : Fault) → got ≡ Bad w → (i < length s → well_escaped (drop i s) ≡ false) × ((left : ℕ) → scanned left i (drop i s) ≡ Err w)
   bad-here w p = let q = bad_ill i (drop i s) w (sym e ∙ p) in (λ g. q.0 (omega (arith, length-drop i s)), q.1)
 
 -- ---- the loop that scans
 
 module _ {s : List ℕ} {i b j : ℕ} (a : AtByte s i b j) (left : ℕ) where
-  pub scan_over : left ≡ 0 → scanned left i (drop i s) ≡ Broken (fault OverLimit (j - 1))
+  pub scan_over : left ≡ 0 → scanned left i (drop i s) ≡ Err (fault OverLimit (j - 1))
   scan_over z = rw (a.here, scan_byte left i b (drop j s), z, ← a.next)
 
   pub scan_on : (left ≡ 0 → ⊥) → scanned left i (drop i s) ≡ scanned (left - 1) j (drop j s)
@@ -249,7 +247,7 @@ module _ {s : List ℕ} {n i : ℕ} (c : Counting s n i) where
         },
       )
 
-  pub count_ill : well_escaped (drop i s) ≡ false → Refused BadStore ≡ plain_length s
+  pub count_ill : well_escaped (drop i s) ≡ false → Err BadStore ≡ plain_length s
   unfolding plain_length
   count_ill f = rw (c.well, f)
 
@@ -258,20 +256,20 @@ module _ {s : List ℕ} {n i : ℕ} (c : Counting s n i) where
     unfolding well_escaped unescaped
     ended = let d : drop i s ≡ [] = drop_of_length-le s h in (c.well ∙ rw d, c.plain ∙ rw (d, add-zero))
 
-    pub count-over : max_key < n → Refused BadStore ≡ plain_length s
+    pub count-over : max_key < n → Err BadStore ≡ plain_length s
     unfolding plain_length
     count-over g = let q = ended in rw (q.0, q.1, lt-leb n max_key g)
 
-    pub count_done : n ≤ max_key → Done n ≡ plain_length s
+    pub count_done : n ≤ max_key → Ok n ≡ plain_length s
     unfolding plain_length
     count_done g = let q = ended in rw (q.0, q.1, le-leb n max_key g)
 
 -- what the count says
-pub plain_done : (s : List ℕ) (n : ℕ) → plain_length s ≡ Done n → (well_escaped s ≡ true) × (n ≡ length (unescaped s)) × (n ≤ max_key)
+pub plain_done : (s : List ℕ) (n : ℕ) → plain_length s ≡ Ok n → (well_escaped s ≡ true) × (n ≡ length (unescaped s)) × (n ≤ max_key)
 unfolding plain_length
 plain_done s n = go (well_escaped s) (leb (length (unescaped s)) max_key) refl
   where
-    go : (t u : Bool) → leb (length (unescaped s)) max_key ≡ u → pick t (pick u (Done (length (unescaped s))) (Refused BadStore)) (Refused BadStore) ≡ Done n
+    go : (t u : Bool) → leb (length (unescaped s)) max_key ≡ u → pick t (pick u (Ok (length (unescaped s))) (Err BadStore)) (Err BadStore) ≡ Ok n
         → (t ≡ true) × (n ≡ length (unescaped s)) × (n ≤ max_key)
     go true true f p = let e : n ≡ length (unescaped s) = cc in (refl, e, omega (arith, leb-true (length (unescaped s)) max_key f))
     go true false f p = nope (cc)
@@ -316,13 +314,13 @@ body_unescaped (zero ∷ suc y ∷ r) e = go (eqb (suc y) 255) refl e (λ f. bod
 body_unescaped (suc x ∷ r) e = rw (body_unescaped r e)
 
 -- a string, its end, and any bytes behind: where it ends, and what it is
-pub scanned_body : (s t : List ℕ) (left i : ℕ) → length s ≤ left → scanned left i (escape_body s ++ (0 ∷ 0 ∷ t)) ≡ Ended (i + length (escape_body s))
+pub scanned_body : (s t : List ℕ) (left i : ℕ) → length s ≤ left → scanned left i (escape_body s ++ (0 ∷ 0 ∷ t)) ≡ Ok (i + length (escape_body s))
 unfolding scanned escape_body
-scanned_body [] t left i h = ap Ended (sym (add-zero i))
+scanned_body [] t left i h = ap Ok (sym (add-zero i))
 scanned_body (x ∷ s) t zero i h = absurd (omega arith)
 scanned_body (x ∷ s) t (suc l) i h =
     rw (append_assoc, scan_byte (suc l) i x (escape_body s ++ (0 ∷ 0 ∷ t)))
-    (scanned_body s t l (i + length (escape_byte x)) (omega arith) ∙ ap Ended (simp (length-append, add_assoc)))
+    (scanned_body s t l (i + length (escape_byte x)) (omega arith) ∙ ap Ok (simp (length-append, add_assoc)))
 
 -- and the other way round: where a scan ends, such a string stands
 pub record Found (left i e : ℕ) (r : List ℕ) : Type 0 where
@@ -343,19 +341,19 @@ found_more left l i e b t g f =
       few = omega (arith, f.few);
     }
 
-one_more_lem : (left i e : ℕ) (f : ℕ → Scanned) → one_more left i f ≡ Ended e → (l : ℕ) × (left ≡ suc l) × (f l ≡ Ended e)
+one_more_lem : (left i e : ℕ) (f : ℕ → Result ℕ Fault) → one_more left i f ≡ Ok e → (l : ℕ) × (left ≡ suc l) × (f l ≡ Ok e)
 one_more_lem zero i e f p = nope (cc)
 one_more_lem (suc l) i e f p = (l, refl, p)
 
-pub scan_found : (left i e : ℕ) (r : List ℕ) → scanned left i r ≡ Ended e → Found left i e r
+pub scan_found : (left i e : ℕ) (r : List ℕ) → scanned left i r ≡ Ok e → Found left i e r
 unfolding scanned escape_body escape_byte
 scan_found left i e [] p = nope (cc)
 scan_found left i e (zero ∷ []) p = nope (cc)
 scan_found left i e (zero ∷ zero ∷ r) p = let q : i ≡ e = cc in record { string = []; rest = r; here = refl; ends = omega arith; few = omega arith }
 scan_found left i e (zero ∷ suc y ∷ r) p = go (eqb (suc y) 255) refl p (λ l f. scan_found l (i + 2) e r f)
   where
-    go : (t : Bool) → eqb (suc y) 255 ≡ t → pick t (one_more left (i + 1) (λ l. scanned l (i + 2) r)) (Broken (fault BadEscape (i + 1))) ≡ Ended e
-        → ((l : ℕ) → scanned l (i + 2) r ≡ Ended e → Found l (i + 2) e r) → Found left i e (0 ∷ suc y ∷ r)
+    go : (t : Bool) → eqb (suc y) 255 ≡ t → pick t (one_more left (i + 1) (λ l. scanned l (i + 2) r)) (Err (fault BadEscape (i + 1))) ≡ Ok e
+        → ((l : ℕ) → scanned l (i + 2) r ≡ Ok e → Found l (i + 2) e r) → Found left i e (0 ∷ suc y ∷ r)
     go true f g ih =
         let q = one_more_lem left (i + 1) e (λ l. scanned l (i + 2) r) g in
         rw (eqb-true (suc y) 255 f) (found_more left q.0 i e 0 r q.1 (ih q.0 q.2))

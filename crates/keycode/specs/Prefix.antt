@@ -1,10 +1,10 @@
 -- The range of the byte strings that begin with a prefix, and what a user prefix is searched as. Document 01, 'Key bytes'.
 -- Assumes nothing.
+use Rattle.std.specs.declared.cmp.Ordering.TheVariants.{Less}
 use Rattle.std.specs.Prelude.{ℕ, suc, ◌≡◌, List, [], ◌∷◌, ◌++◌, take, ltb}
 use Rattle.keycode.specs.Tests.{pick}
 use Rattle.keycode.specs.Order.{compare_bytes}
 use Rattle.keycode.specs.Strings.{escape_body}
-use Rattle.keycode.specs.declared.order.Order.TheVariants.{Less}
 use Rattle.keycode.specs.declared.prefix.End.{End}
 use Rattle.keycode.specs.declared.prefix.End.TheVariants.{Unbounded, Raised}
 

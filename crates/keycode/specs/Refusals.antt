@@ -1,9 +1,7 @@
 -- The numbers of document 01, 'Numbers returned', and the number of an answer that holds a refusal. Assumes nothing.
-use Rattle.std.specs.Prelude.{ℕ}
+use Rattle.std.specs.Prelude.{ℕ, Result, Ok, Err}
 use Rattle.keycode.specs.declared.refusal.Refusal.{Refusal}
 use Rattle.keycode.specs.declared.refusal.Refusal.TheVariants.{Absent, ReadOnly, NotOpen, KeyTooLong, ValueTooLong, Conflict, LogFull, TableFull, TooManyOpen, NoSuchVersion, VersionsSpent, BadStore, BadRequest}
-use Rattle.keycode.specs.declared.refusal.Length.{Length}
-use Rattle.keycode.specs.declared.refusal.Length.TheVariants.{Done, Refused}
 
 -- the number of a refusal
 abbrev pub number_of : Refusal → ℕ
@@ -22,6 +20,6 @@ number_of BadStore = 12
 number_of BadRequest = 13
 
 -- the number of an answer that is a length
-abbrev pub length_number : Length → ℕ
-length_number (Done n) = 0
-length_number (Refused r) = number_of r
+abbrev pub length_number : Result ℕ Refusal → ℕ
+length_number (Ok n) = 0
+length_number (Err r) = number_of r

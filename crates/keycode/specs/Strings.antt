@@ -1,18 +1,15 @@
 -- Byte strings inside keys. Document 01, 'Key bytes': each 00 of the string becomes 00 ff, then 00 00 ends it; any other byte
 -- after 00, or no end, is a fault. What a fault is and at which byte it shows is told here, for the decoder. Assumes nothing.
-use Rattle.std.specs.Prelude.{ℕ, zero, suc, ◌+◌, Bool, true, false, List, [], ◌∷◌, ◌++◌, length, eqb, leb}
+use Rattle.keycode.specs.declared.refusal.Refusal.{Refusal}
+use Rattle.std.specs.Prelude.{ℕ, zero, suc, ◌+◌, Bool, true, false, List, [], ◌∷◌, ◌++◌, length, eqb, leb, Result, Ok, Err}
 use Rattle.keycode.specs.Tests.{pick}
 use Rattle.keycode.specs.Limits.{max_key}
-use Rattle.keycode.specs.declared.refusal.Length.{Length}
-use Rattle.keycode.specs.declared.refusal.Length.TheVariants.{Done, Refused}
 use Rattle.keycode.specs.declared.refusal.Refusal.TheVariants.{BadStore}
 use Rattle.keycode.specs.declared.strings.Fault.{Fault}
 use Rattle.keycode.specs.declared.strings.Reason.{Reason}
 use Rattle.keycode.specs.declared.strings.Reason.TheVariants.{BadEscape, NoEnd, OverLimit}
 use Rattle.keycode.specs.declared.strings.Step.{Step}
 use Rattle.keycode.specs.declared.strings.Step.TheVariants.{Byte, Closed, Bad}
-use Rattle.keycode.specs.declared.strings.Scanned.{Scanned}
-use Rattle.keycode.specs.declared.strings.Scanned.TheVariants.{Ended, Broken}
 
 -- a byte, escaped
 unfoldable pub escape_byte : ℕ → List ℕ
@@ -45,9 +42,9 @@ well_escaped (zero ∷ suc y ∷ r) = pick (eqb (suc y) 255) (well_escaped r) fa
 well_escaped (suc x ∷ r) = well_escaped r
 
 -- how many bytes the string of escaped bytes with no end has; 12 where they are escaped badly or it is over the limit
-unfoldable pub plain_length : List ℕ → Length
+unfoldable pub plain_length : List ℕ → Result ℕ Refusal
 unfolding well_escaped unescaped
-plain_length s = pick (well_escaped s) (pick (leb (length (unescaped s)) max_key) (Done (length (unescaped s))) (Refused BadStore)) (Refused BadStore)
+plain_length s = pick (well_escaped s) (pick (leb (length (unescaped s)) max_key) (Ok (length (unescaped s))) (Err BadStore)) (Err BadStore)
 
 -- ---- reading escaped bytes out of a key
 
@@ -63,14 +60,14 @@ step_at i (zero ∷ suc y ∷ r) = pick (eqb (suc y) 255) (Byte 0 (i + 2)) (Bad 
 step_at i (suc x ∷ r) = Byte (suc x) (i + 1)
 
 -- one more byte of a string of which `left` more are allowed; i is the last of its escaped bytes
-abbrev pub one_more : ℕ → ℕ → (ℕ → Scanned) → Scanned
-one_more zero i f = Broken (fault OverLimit i)
+abbrev pub one_more : ℕ → ℕ → (ℕ → Result ℕ Fault) → Result ℕ Fault
+one_more zero i f = Err (fault OverLimit i)
 one_more (suc l) i f = f l
 
 -- where the string that stands from index i on ends, if it has at most `left` bytes: the index of its closing 00 00; else the first fault
-unfoldable pub scanned : ℕ → ℕ → List ℕ → Scanned
-scanned left i [] = Broken (fault NoEnd i)
-scanned left i (zero ∷ []) = Broken (fault NoEnd (i + 1))
-scanned left i (zero ∷ zero ∷ r) = Ended i
-scanned left i (zero ∷ suc y ∷ r) = pick (eqb (suc y) 255) (one_more left (i + 1) (λ l. scanned l (i + 2) r)) (Broken (fault BadEscape (i + 1)))
+unfoldable pub scanned : ℕ → ℕ → List ℕ → Result ℕ Fault
+scanned left i [] = Err (fault NoEnd i)
+scanned left i (zero ∷ []) = Err (fault NoEnd (i + 1))
+scanned left i (zero ∷ zero ∷ r) = Ok i
+scanned left i (zero ∷ suc y ∷ r) = pick (eqb (suc y) 255) (one_more left (i + 1) (λ l. scanned l (i + 2) r)) (Err (fault BadEscape (i + 1)))
 scanned left i (suc x ∷ r) = one_more left i (λ l. scanned l (i + 1) r)

@@ -10,7 +10,7 @@ use crate::encode::{
     encode_unversioned, encode_version, encode_version_prefix,
 };
 use crate::limits::KEY_BYTES;
-use crate::refusal::Length;
+use crate::refusal::Refusal;
 
 // The first `len` bytes are the key's.
 #[derive(Clone, Copy)]
@@ -20,12 +20,12 @@ pub struct Code {
 }
 
 // The code of what an encoder answered and left; none of those below is refused.
-fn coded(answer: Length, bytes: [u8; KEY_BYTES]) -> Code
+fn coded(answer: Result<usize, Refusal>, bytes: [u8; KEY_BYTES]) -> Code
     ensures { result ≡ code_of answer bytes }
 {
     match answer {
-        Length::Done(len) => Code { len, bytes },
-        Length::Refused(_) => Code { len: 0, bytes },
+        Ok(len) => Code { len, bytes },
+        Err(_) => Code { len: 0, bytes },
     }
 }
 

@@ -9,110 +9,110 @@ ghost use Rattle.keycode.specs.encode.Promises.{Encodes, encode_answer};
 
 use crate::limits::MAX_KEY;
 use crate::number::put_number;
-use crate::refusal::{Length, Refusal};
+use crate::refusal::Refusal;
 use crate::strings::{escape_body_into, escape_into, escaped_len};
 
 // The length of an encoding that has `rest` bytes besides its escaped user key, or why it cannot be written into `room` bytes.
-fn measured(key: &[u8], rest: usize, room: usize) -> Length
+fn measured(key: &[u8], rest: usize, room: usize) -> Result<usize, Refusal>
     requires { rest < 16 }
     ensures { result ≡ encode_answer key.now (length (escape_body key.now) + rest) room }
 {
     if MAX_KEY < key.len() {
-        return Length::Refused(Refusal::KeyTooLong);
+        return Err(Refusal::KeyTooLong);
     }
     let n = escaped_len(key) + rest;
     if room < n {
-        Length::Refused(Refusal::BadRequest)
+        Err(Refusal::BadRequest)
     } else {
-        Length::Done(n)
+        Ok(n)
     }
 }
 
 // A key that is a tag and a version.
-fn encode_number(tag: u8, version: u64, out: &mut [u8]) -> Length
+fn encode_number(tag: u8, version: u64, out: &mut [u8]) -> Result<usize, Refusal>
     ensures { Encodes [] (tag ∷ be 8 version) out.old result out.new }
 {
     if out.len() < 9 {
-        return Length::Refused(Refusal::BadRequest);
+        return Err(Refusal::BadRequest);
     }
     out[0] = tag;
     put_number(version, 8, out, 1);
-    Length::Done(9)
+    Ok(9)
 }
 
-pub fn encode_next_version(out: &mut [u8]) -> Length
+pub fn encode_next_version(out: &mut [u8]) -> Result<usize, Refusal>
     ensures { Encodes [] (encode next_version) out.old result out.new }
 {
     if out.len() < 1 {
-        return Length::Refused(Refusal::BadRequest);
+        return Err(Refusal::BadRequest);
     }
     out[0] = 0;
-    Length::Done(1)
+    Ok(1)
 }
 
-pub fn encode_txn_active(version: u64, out: &mut [u8]) -> Length
+pub fn encode_txn_active(version: u64, out: &mut [u8]) -> Result<usize, Refusal>
     ensures { Encodes [] (encode (txn_active version)) out.old result out.new }
 {
     encode_number(1, version, out)
 }
 
-pub fn encode_txn_active_snapshot(version: u64, out: &mut [u8]) -> Length
+pub fn encode_txn_active_snapshot(version: u64, out: &mut [u8]) -> Result<usize, Refusal>
     ensures { Encodes [] (encode (txn_active_snapshot version)) out.old result out.new }
 {
     encode_number(2, version, out)
 }
 
-pub fn encode_txn_write(version: u64, key: &[u8], out: &mut [u8]) -> Length
+pub fn encode_txn_write(version: u64, key: &[u8], out: &mut [u8]) -> Result<usize, Refusal>
     ensures { Encodes key.now (encode (txn_write version key.now)) out.old result out.new }
 {
     match measured(key, 11, out.len()) {
-        Length::Done(n) => {
+        Ok(n) => {
             out[0] = 3;
             put_number(version, 8, out, 1);
             escape_into(key, out, 9);
-            Length::Done(n)
+            Ok(n)
         }
-        Length::Refused(r) => Length::Refused(r),
+        Err(r) => Err(r),
     }
 }
 
-pub fn encode_version(key: &[u8], version: u64, out: &mut [u8]) -> Length
+pub fn encode_version(key: &[u8], version: u64, out: &mut [u8]) -> Result<usize, Refusal>
     ensures { Encodes key.now (encode (version_key key.now version)) out.old result out.new }
 {
     match measured(key, 11, out.len()) {
-        Length::Done(n) => {
+        Ok(n) => {
             out[0] = 4;
             let o = escape_into(key, out, 1);
             put_number(version, 8, out, o);
-            Length::Done(n)
+            Ok(n)
         }
-        Length::Refused(r) => Length::Refused(r),
+        Err(r) => Err(r),
     }
 }
 
-pub fn encode_unversioned(key: &[u8], out: &mut [u8]) -> Length
+pub fn encode_unversioned(key: &[u8], out: &mut [u8]) -> Result<usize, Refusal>
     ensures { Encodes key.now (encode (unversioned key.now)) out.old result out.new }
 {
     match measured(key, 3, out.len()) {
-        Length::Done(n) => {
+        Ok(n) => {
             out[0] = 5;
             escape_into(key, out, 1);
-            Length::Done(n)
+            Ok(n)
         }
-        Length::Refused(r) => Length::Refused(r),
+        Err(r) => Err(r),
     }
 }
 
 // What the Version keys of the user keys that begin with `prefix` begin with.
-pub fn encode_version_prefix(prefix: &[u8], out: &mut [u8]) -> Length
+pub fn encode_version_prefix(prefix: &[u8], out: &mut [u8]) -> Result<usize, Refusal>
     ensures { Encodes prefix.now (searched prefix.now) out.old result out.new }
 {
     match measured(prefix, 1, out.len()) {
-        Length::Done(n) => {
+        Ok(n) => {
             out[0] = 4;
             escape_body_into(prefix, out, 1);
-            Length::Done(n)
+            Ok(n)
         }
-        Length::Refused(r) => Length::Refused(r),
+        Err(r) => Err(r),
     }
 }

@@ -4,8 +4,6 @@ pub(crate) mod decoding;
 
 pub use crate::key::decoding::decode;
 use crate::parts::Part;
-use crate::refusal::Refusal;
-use crate::strings::Fault;
 
 // A key with its fields; its string is a part of the bytes that it was decoded from.
 #[derive(Clone, Copy)]
@@ -16,18 +14,4 @@ pub enum Key {
     TxnWrite(u64, Part),
     Version(Part, u64),
     Unversioned(Part),
-}
-
-// What decoding answers.
-#[derive(Clone, Copy)]
-pub enum Decoded {
-    Whole(Key),
-    Refused(Refusal),
-}
-
-// What decoding finds: the key, or the first fault.
-#[derive(Clone, Copy)]
-pub enum Reading {
-    Read(Key),
-    Faulty(Fault),
 }

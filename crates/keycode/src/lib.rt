@@ -18,10 +18,10 @@ pub use encode::{
     encode_next_version, encode_txn_active, encode_txn_active_snapshot, encode_txn_write,
     encode_unversioned, encode_version, encode_version_prefix,
 };
+pub use key::Key;
 pub use key::decoding::decode;
-pub use key::{Decoded, Key};
-pub use order::{Order, compare};
+pub use order::compare;
 pub use parts::Part;
 pub use prefix::{End, prefix_end};
-pub use refusal::{Length, Refusal, number_of};
+pub use refusal::{Refusal, number_of};
 pub use strings::unescape;

@@ -3,16 +3,10 @@ ghost use Rattle.std.specs.Prelude.{◌≤◌, min, length, drop, ◌≡◌};
 ghost use Rattle.keycode.specs.Order.{compare_bytes};
 
 use crate::number::eight_at;
-
-#[derive(Clone, Copy)]
-pub enum Order {
-    Less,
-    Equal,
-    Greater,
-}
+use std::cmp::Ordering;
 
 // The order, eight bytes at a time as long as both have so many.
-pub fn compare(a: &[u8], b: &[u8]) -> Order
+pub fn compare(a: &[u8], b: &[u8]) -> Ordering
     ensures { result ≡ compare_bytes a.now b.now }
 {
     let n = least(a.len(), b.len());
@@ -21,10 +15,10 @@ pub fn compare(a: &[u8], b: &[u8]) -> Order
         let x = eight_at(a, i);
         let y = eight_at(b, i);
         if x < y {
-            return Order::Less;
+            return Ordering::Less;
         }
         if y < x {
-            return Order::Greater;
+            return Ordering::Greater;
         }
         i += 8;
     }
@@ -32,7 +26,7 @@ pub fn compare(a: &[u8], b: &[u8]) -> Order
 }
 
 // The order of what follows index from, byte by byte.
-fn compare_rest(a: &[u8], b: &[u8], from: usize) -> Order
+fn compare_rest(a: &[u8], b: &[u8], from: usize) -> Ordering
     requires { (from ≤ length a.now) × (from ≤ length b.now) }
     ensures { result ≡ compare_bytes (drop from a.now) (drop from b.now) }
 {
@@ -42,20 +36,20 @@ fn compare_rest(a: &[u8], b: &[u8], from: usize) -> Order
         let x = a[i];
         let y = b[i];
         if x < y {
-            return Order::Less;
+            return Ordering::Less;
         }
         if y < x {
-            return Order::Greater;
+            return Ordering::Greater;
         }
         i += 1;
     }
     if i < b.len() {
-        return Order::Less;
+        return Ordering::Less;
     }
     if i < a.len() {
-        Order::Greater
+        Ordering::Greater
     } else {
-        Order::Equal
+        Ordering::Equal
     }
 }
 

@@ -20,13 +20,6 @@ pub enum Refusal {
     BadRequest,
 }
 
-// The answer of a call that writes bytes into a lent buffer: how many.
-#[derive(Clone, Copy)]
-pub enum Length {
-    Done(usize),
-    Refused(Refusal),
-}
-
 pub fn number_of(r: Refusal) -> u8
     ensures { result ≡ number_of r }
 {

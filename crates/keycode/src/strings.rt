@@ -7,7 +7,7 @@ ghost use Rattle.keycode.specs.Strings.{escape_byte, escape_body, escape, unesca
 ghost use Rattle.keycode.specs.Promises.{Unescapes};
 
 use crate::limits::MAX_KEY;
-use crate::refusal::{Length, Refusal};
+use crate::refusal::Refusal;
 
 // Why bytes are no key.
 #[derive(Clone, Copy)]
@@ -33,13 +33,6 @@ pub enum Step {
     Byte(u8, usize),
     Closed,
     Bad(Fault),
-}
-
-// The place of a string's closing 00 00.
-#[derive(Clone, Copy)]
-pub enum Scanned {
-    Ended(usize),
-    Broken(Fault),
 }
 
 // How many bytes a byte is, escaped.
@@ -139,7 +132,7 @@ pub fn step_at(s: &[u8], i: usize) -> Step
 }
 
 // Where the string whose escaped bytes start at index at ends, if it is within the limit.
-pub(crate) fn scan(s: &[u8], at: usize) -> Scanned
+pub(crate) fn scan(s: &[u8], at: usize) -> Result<usize, Fault>
     requires { at ≤ length s.now }
     ensures { result ≡ scanned max_key at (drop at s.now) }
 {
@@ -149,7 +142,7 @@ pub(crate) fn scan(s: &[u8], at: usize) -> Scanned
         match step_at(s, i) {
             Step::Byte(_, j) => {
                 if left == 0 {
-                    return Scanned::Broken(Fault {
+                    return Err(Fault {
                         reason: Reason::OverLimit,
                         at: j - 1,
                     });
@@ -158,17 +151,17 @@ pub(crate) fn scan(s: &[u8], at: usize) -> Scanned
                 i = j;
             }
             Step::Closed => {
-                return Scanned::Ended(i);
+                return Ok(i);
             }
             Step::Bad(f) => {
-                return Scanned::Broken(f);
+                return Err(f);
             }
         }
     }
 }
 
 // How many bytes the string of escaped bytes with no end has; 12 where they are escaped badly or it is over the limit.
-fn plain_len(s: &[u8]) -> Length
+fn plain_len(s: &[u8]) -> Result<usize, Refusal>
     ensures { result ≡ plain_length s.now }
 {
     let mut n = 0;
@@ -180,17 +173,17 @@ fn plain_len(s: &[u8]) -> Length
                 i = j;
             }
             Step::Closed => {
-                return Length::Refused(Refusal::BadStore);
+                return Err(Refusal::BadStore);
             }
             Step::Bad(_) => {
-                return Length::Refused(Refusal::BadStore);
+                return Err(Refusal::BadStore);
             }
         }
     }
     if MAX_KEY < n {
-        Length::Refused(Refusal::BadStore)
+        Err(Refusal::BadStore)
     } else {
-        Length::Done(n)
+        Ok(n)
     }
 }
 
@@ -219,17 +212,17 @@ fn unescape_into(s: &[u8], out: &mut [u8])
 }
 
 // The string of escaped bytes with no end, written to the front of out.
-pub fn unescape(escaped: &[u8], out: &mut [u8]) -> Length
+pub fn unescape(escaped: &[u8], out: &mut [u8]) -> Result<usize, Refusal>
     ensures { Unescapes escaped.now out.old result out.new }
 {
     match plain_len(escaped) {
-        Length::Done(n) => {
+        Ok(n) => {
             if out.len() < n {
-                return Length::Refused(Refusal::BadRequest);
+                return Err(Refusal::BadRequest);
             }
             unescape_into(escaped, out);
-            Length::Done(n)
+            Ok(n)
         }
-        Length::Refused(r) => Length::Refused(r),
+        Err(r) => Err(r),
     }
 }

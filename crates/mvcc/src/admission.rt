@@ -9,16 +9,9 @@ ghost use Rattle.mvcc.specs.admission.Admits.{Admits};
 use crate::handle::Handle;
 use bitcask::Used;
 use bitcask::engine::spot::find;
-use bitcask::engine::{Entered, Found, Mark, enter};
+use bitcask::engine::{Mark, enter};
 use keycode::Refusal;
 use keycode::code::active_code;
-
-// A store that was entered with a handle whose transaction is open.
-#[derive(Clone, Copy)]
-pub enum Admitted {
-    Fine(Mark),
-    Refused(Refusal),
-}
 
 // Whether a key is in the store.
 pub(crate) fn live(log: &[u8], table: &[u32], mark: Mark, key: &[u8]) -> bool
@@ -26,8 +19,8 @@ pub(crate) fn live(log: &[u8], table: &[u32], mark: Mark, key: &[u8]) -> bool
     ensures { result ≡ has_row key.now (rows log.now table.now mark) }
 {
     match find(log, table, mark, key) {
-        Found::At(_) => true,
-        Found::Absent(_) => false,
+        Ok(_) => true,
+        Err(_) => false,
     }
 }
 
@@ -53,20 +46,20 @@ pub(crate) fn open(log: &[u8], table: &[u32], mark: Mark, handle: Handle) -> boo
 }
 
 // 13 for the sizes and the handle, then 3.
-pub(crate) fn admit(log: &[u8], used: Used, table: &[u32], handle: Handle) -> Admitted
+pub(crate) fn admit(log: &[u8], used: Used, table: &[u32], handle: Handle) -> Result<Mark, Refusal>
     ensures { Admits log.now used table.now handle result }
 {
     match enter(log, used, table) {
-        Entered::Refused(r) => Admitted::Refused(r),
-        Entered::In(mark) => {
+        Err(r) => Err(r),
+        Ok(mark) => {
             let sound = handle.sound();
             if !sound {
-                return Admitted::Refused(Refusal::BadRequest);
+                return Err(Refusal::BadRequest);
             }
             if open(log, table, mark, handle) {
-                Admitted::Fine(mark)
+                Ok(mark)
             } else {
-                Admitted::Refused(Refusal::NotOpen)
+                Err(Refusal::NotOpen)
             }
         }
     }

@@ -10,12 +10,12 @@ ghost use Rattle.mvcc.specs.as_of.Promises.{BeginsAsOf};
 
 use crate::begun::{Begun, given, refused};
 use crate::handle::Handle;
-use crate::payload::{SetAnswer, SetRead, VersionRead, read_set};
+use crate::payload::{SetAnswer, SetRead, read_set};
 use crate::snapshot::next_version;
 use bitcask::Used;
 use bitcask::engine::row::value_at;
 use bitcask::engine::spot::find;
-use bitcask::engine::{Entered, Found, Mark, enter};
+use bitcask::engine::{Mark, enter};
 use keycode::Refusal;
 use keycode::code::snapshot_code;
 
@@ -29,11 +29,11 @@ fn stored(log: &[u8], table: &[u32], mark: Mark, version: u64) -> SetRead
     let bytes = code.bytes;
     let n = code.len;
     match find(log, table, mark, &bytes[..n]) {
-        Found::Absent(_) => SetRead {
+        Err(_) => SetRead {
             answer: SetAnswer::Fine,
             handle,
         },
-        Found::At(p) => read_set(value_at(log, table, mark, p), handle),
+        Ok(p) => read_set(value_at(log, table, mark, p), handle),
     }
 }
 
@@ -42,10 +42,10 @@ pub fn begin_as_of(log: &[u8], used: Used, table: &[u32], version: u64) -> Begun
     ensures { BeginsAsOf log.now used.len table.now version result }
 {
     match enter(log, used, table) {
-        Entered::Refused(r) => refused(r),
-        Entered::In(mark) => match next_version(log, table, mark) {
-            VersionRead::Bad => refused(Refusal::BadStore),
-            VersionRead::Read(next) => {
+        Err(r) => refused(r),
+        Ok(mark) => match next_version(log, table, mark) {
+            None => refused(Refusal::BadStore),
+            Some(next) => {
                 if next <= version {
                     return refused(Refusal::NoSuchVersion);
                 }

@@ -3,13 +3,13 @@ ghost use Rattle.std.specs.Prelude.{◌≡◌};
 ghost use Rattle.mvcc.specs.request.Given.{refused_by, begun_with};
 
 use crate::handle::Handle;
-use bitcask::{Changed, Used};
+use bitcask::Used;
 use keycode::Refusal;
 
 // The used length then, and the handle; a blank one beside a refusal.
 #[derive(Clone, Copy)]
 pub struct Begun {
-    pub answer: Changed,
+    pub answer: Result<Used, Refusal>,
     pub handle: Handle,
 }
 
@@ -18,7 +18,7 @@ pub(crate) fn refused(r: Refusal) -> Begun
 {
     let handle = Handle::blank();
     Begun {
-        answer: Changed::Refused(r),
+        answer: Err(r),
         handle,
     }
 }
@@ -27,7 +27,7 @@ pub(crate) fn given(used: Used, handle: Handle) -> Begun
     ensures { result ≡ begun_with used.len handle }
 {
     Begun {
-        answer: Changed::Done(used),
+        answer: Ok(used),
         handle,
     }
 }

@@ -8,35 +8,39 @@ ghost use Rattle.mvcc.specs.conflict.Conflicts.{seen_bytes, search_by};
 ghost use Rattle.mvcc.specs.conflict.Conflicts.{unseen_rows};
 
 use crate::handle::Handle;
-use crate::payload::VersionRead;
 use crate::version::version_of;
 use bitcask::Bound;
-use bitcask::append::Check;
+use bitcask::engine::Mark;
 use bitcask::engine::row::key_at;
 use bitcask::engine::spot::past;
 use bitcask::engine::walk::row_before;
-use bitcask::engine::{Mark, Near};
 use keycode::Refusal;
 use keycode::code::version_code;
 
 // What the last record found says: a version that the handle does not see is another transaction's.
-fn met(handle: Handle, key: &[u8]) -> Check
+fn met(handle: Handle, key: &[u8]) -> Result<(), Refusal>
     ensures { result ≡ seen_bytes handle key.now }
 {
     match version_of(key) {
-        VersionRead::Bad => Check::Refused(Refusal::BadStore),
-        VersionRead::Read(v) => {
+        None => Err(Refusal::BadStore),
+        Some(v) => {
             if handle.sees(v) {
-                Check::Fine
+                Ok(())
             } else {
-                Check::Refused(Refusal::Conflict)
+                Err(Refusal::Conflict)
             }
         }
     }
 }
 
 // 12 where the record does not decode, 6 where the handle does not see it.
-pub(crate) fn search(log: &[u8], table: &[u32], mark: Mark, handle: Handle, key: &[u8]) -> Check
+pub(crate) fn search(
+    log: &[u8],
+    table: &[u32],
+    mark: Mark,
+    handle: Handle,
+    key: &[u8],
+) -> Result<(), Refusal>
     requires { (Held log.now table.now mark) × (length key.now ≤ max_key) }
     ensures { result ≡ search_by handle (pairs (unseen_rows handle key.now (rows log.now table.now mark))) }
 {
@@ -55,7 +59,7 @@ pub(crate) fn search(log: &[u8], table: &[u32], mark: Mark, handle: Handle, key:
         Bound::Included,
         &low_bytes[..low_len],
     ) {
-        Near::None => Check::Fine,
-        Near::At(p) => met(handle, key_at(log, table, mark, p)),
+        None => Ok(()),
+        Some(p) => met(handle, key_at(log, table, mark, p)),
     }
 }

@@ -5,11 +5,12 @@ pub mod rollback;
 
 ghost use Rattle.mvcc.specs.end.Ways.{Ends};
 
-use crate::admission::{Admitted, admit};
+use crate::admission::admit;
 use crate::end::clear::{clear, write_span};
 use crate::handle::Handle;
 use crate::undo::undo;
-use bitcask::{Changed, Used};
+use bitcask::Used;
+use keycode::Refusal;
 use keycode::code::active_code;
 
 // Whether the versions that were written stay.
@@ -27,14 +28,14 @@ pub(crate) fn finish(
     table: &mut [u32],
     handle: Handle,
     way: Way,
-) -> Changed
+) -> Result<Used, Refusal>
     ensures { Ends way log.old used.len table.old handle result log.new table.new }
 {
     match admit(log, used, table, handle) {
-        Admitted::Refused(r) => Changed::Refused(r),
-        Admitted::Fine(mark) => {
+        Err(r) => Err(r),
+        Ok(mark) => {
             if handle.read_only {
-                return Changed::Done(used);
+                return Ok(used);
             }
             let version = handle.version;
             let span = write_span(log, table, mark, version);

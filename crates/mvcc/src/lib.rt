@@ -24,14 +24,14 @@ pub mod write;
 
 pub use as_of::begin_as_of;
 pub use begun::Begun;
-pub use bitcask::{Bound, Changed, Located, Stepped, Used};
+pub use bitcask::{Bound, KeyValue, Used};
 pub use end::commit::commit;
 pub use end::rollback::rollback;
 pub use handle::Handle;
 pub use read::get::get;
 pub use read::resume::resume;
 pub use read_only::begin_read_only;
-pub use report::{Stated, Versions, status};
+pub use report::{Versions, status};
 pub use scan::prefix::scan_prefix_step;
 pub use scan::scan_step;
 pub use start::begin;

@@ -23,12 +23,6 @@ pub(crate) const VALUE_TAG: u8 = 1;
 
 pub(crate) const GONE_TAG: u8 = 0;
 
-#[derive(Clone, Copy)]
-pub enum VersionRead {
-    Read(u64),
-    Bad,
-}
-
 // A value's bytes start behind the first `skip` of its payload.
 #[derive(Clone, Copy)]
 pub enum ValueRead {
@@ -50,13 +44,13 @@ pub struct SetRead {
     pub handle: Handle,
 }
 
-pub(crate) fn read_version(bytes: &[u8]) -> VersionRead
+pub(crate) fn read_version(bytes: &[u8]) -> Option<u64>
     ensures { result ≡ version_in bytes.now }
 {
     if bytes.len() != VERSION_BYTES {
-        return VersionRead::Bad;
+        return None;
     }
-    VersionRead::Read(get_number(bytes))
+    Some(get_number(bytes))
 }
 
 pub(crate) fn read_value(bytes: &[u8]) -> ValueRead

@@ -2,9 +2,9 @@
 ghost use Rattle.mvcc.specs.read_only.Promises.{BeginsReading};
 
 use crate::begun::{Begun, given, refused};
-use crate::snapshot::{Tally, look_round};
+use crate::snapshot::look_round;
 use bitcask::Used;
-use bitcask::engine::{Entered, enter};
+use bitcask::engine::enter;
 use keycode::Refusal;
 use keycode::limits::MAX_OPEN;
 
@@ -13,13 +13,13 @@ pub fn begin_read_only(log: &[u8], used: Used, table: &[u32]) -> Begun
     ensures { BeginsReading log.now used.len table.now result }
 {
     match enter(log, used, table) {
-        Entered::Refused(r) => refused(r),
-        Entered::In(mark) => {
+        Err(r) => refused(r),
+        Ok(mark) => {
             let seen = look_round(log, table, mark, true);
             let tally = seen.tally;
             match tally {
-                Tally::Bad => refused(Refusal::BadStore),
-                Tally::Open(k) => {
+                None => refused(Refusal::BadStore),
+                Some(k) => {
                     if MAX_OPEN < k {
                         return refused(Refusal::TooManyOpen);
                     }

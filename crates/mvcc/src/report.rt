@@ -1,11 +1,10 @@
 // The transactions' status: the last version given, and how many keys say that one is open, decodable or not.
 ghost use Rattle.mvcc.specs.read_only.Promises.{States};
 
-use crate::payload::VersionRead;
 use crate::snapshot::{next_version, open_span};
 use bitcask::Used;
+use bitcask::engine::enter;
 use bitcask::engine::span::rows_in;
-use bitcask::engine::{Entered, enter};
 use keycode::Refusal;
 
 // NextVersion less 1, and the live keys that begin with the tag of TxnActive.
@@ -15,24 +14,18 @@ pub struct Versions {
     pub open: usize,
 }
 
-#[derive(Clone, Copy)]
-pub enum Stated {
-    Done(Versions),
-    Refused(Refusal),
-}
-
 // 13, then 12.
-pub fn status(log: &[u8], used: Used, table: &[u32]) -> Stated
+pub fn status(log: &[u8], used: Used, table: &[u32]) -> Result<Versions, Refusal>
     ensures { States log.now used.len table.now result }
 {
     match enter(log, used, table) {
-        Entered::Refused(r) => Stated::Refused(r),
-        Entered::In(mark) => match next_version(log, table, mark) {
-            VersionRead::Bad => Stated::Refused(Refusal::BadStore),
-            VersionRead::Read(next) => {
+        Err(r) => Err(r),
+        Ok(mark) => match next_version(log, table, mark) {
+            None => Err(Refusal::BadStore),
+            Some(next) => {
                 let span = open_span(log, table, mark);
                 let open = rows_in(log, table, mark, span);
-                Stated::Done(Versions {
+                Ok(Versions {
                     last: next - 1,
                     open,
                 })

@@ -5,11 +5,11 @@ pub(crate) mod prefix;
 
 ghost use Rattle.mvcc.specs.scan.Promises.{Scans};
 
-use crate::admission::{Admitted, admit};
+use crate::admission::admit;
 use crate::handle::Handle;
 use crate::scan::bounds::step_between;
 use crate::scan::checks::keys_fit;
-use bitcask::{Bound, Stepped, Used};
+use bitcask::{Bound, KeyValue, Used};
 use keycode::Refusal;
 
 pub fn scan_step(
@@ -23,18 +23,18 @@ pub fn scan_step(
     high: &[u8],
     given: bool,
     last: &[u8],
-) -> Stepped
+) -> Result<KeyValue, Refusal>
     ensures { Scans log.now used.len table.now handle lower low.now upper high.now given last.now result }
 {
     match admit(log, used, table, handle) {
-        Admitted::Refused(r) => Stepped::Refused(r),
-        Admitted::Fine(mark) => {
+        Err(r) => Err(r),
+        Ok(mark) => {
             if keys_fit(lower, low, upper, high, given, last) {
                 step_between(
                     log, table, mark, handle, lower, low, upper, high, given, last,
                 )
             } else {
-                Stepped::Refused(Refusal::KeyTooLong)
+                Err(Refusal::KeyTooLong)
             }
         }
     }

@@ -9,11 +9,11 @@ ghost use Rattle.mvcc.specs.request.Ranges.{active_prefix};
 ghost use Rattle.mvcc.specs.snapshot.Active.{next_by, next_in, active_in, keys_in, versions_in, active_rows, bad_seen, seen_from, seen_by};
 
 use crate::handle::Handle;
-use crate::payload::{VERSION_BYTES, VersionRead, read_version};
+use crate::payload::{VERSION_BYTES, read_version};
 use bitcask::engine::row::{key_at, value_at};
 use bitcask::engine::span::prefix_span;
 use bitcask::engine::spot::{find, meet, next};
-use bitcask::engine::{Found, Mark, Span};
+use bitcask::engine::{Mark, Span};
 use keycode::code::next_version_code;
 use keycode::number::get_number;
 use keycode::parts::clip;
@@ -21,37 +21,30 @@ use keycode::parts::clip;
 // The first byte of every TxnActive key.
 const ACTIVE_TAG: u8 = 1;
 
-// How many versions are open, or that a key is none of theirs.
-#[derive(Clone, Copy)]
-pub enum Tally {
-    Open(usize),
-    Bad,
-}
-
 // Beside the count the handle with the versions, as many as it has room for; a blank one where the store is bad.
 #[derive(Clone, Copy)]
 pub struct Seen {
-    pub tally: Tally,
+    pub tally: Option<usize>,
     pub handle: Handle,
 }
 
 // No transaction has version 0.
-fn positive(read: VersionRead) -> VersionRead
+fn positive(read: Option<u64>) -> Option<u64>
     ensures { result ≡ next_by read }
 {
     match read {
-        VersionRead::Bad => VersionRead::Bad,
-        VersionRead::Read(v) => {
+        None => None,
+        Some(v) => {
             if v == 0 {
-                return VersionRead::Bad;
+                return None;
             }
-            VersionRead::Read(v)
+            Some(v)
         }
     }
 }
 
 // The next version; a missing record means 1.
-pub(crate) fn next_version(log: &[u8], table: &[u32], mark: Mark) -> VersionRead
+pub(crate) fn next_version(log: &[u8], table: &[u32], mark: Mark) -> Option<u64>
     requires { Held log.now table.now mark }
     ensures { result ≡ next_in (rows log.now table.now mark) }
 {
@@ -59,19 +52,19 @@ pub(crate) fn next_version(log: &[u8], table: &[u32], mark: Mark) -> VersionRead
     let bytes = code.bytes;
     let n = code.len;
     match find(log, table, mark, &bytes[..n]) {
-        Found::Absent(_) => VersionRead::Read(1),
-        Found::At(p) => positive(read_version(value_at(log, table, mark, p))),
+        Err(_) => Some(1),
+        Ok(p) => positive(read_version(value_at(log, table, mark, p))),
     }
 }
 
 // The version of a TxnActive key.
-fn version_in(key: &[u8]) -> VersionRead
+fn version_in(key: &[u8]) -> Option<u64>
     ensures { result ≡ active_in key.now }
 {
     if key.len() != 1 + VERSION_BYTES {
-        return VersionRead::Bad;
+        return None;
     }
-    VersionRead::Read(get_number(clip(key, 1, VERSION_BYTES)))
+    Some(get_number(clip(key, 1, VERSION_BYTES)))
 }
 
 fn bad_seen() -> Seen
@@ -79,7 +72,7 @@ fn bad_seen() -> Seen
 {
     let handle = Handle::blank();
     Seen {
-        tally: Tally::Bad,
+        tally: None,
         handle,
     }
 }
@@ -105,15 +98,15 @@ fn gather(log: &[u8], table: &[u32], mark: Mark, span: Span, start: Handle) -> S
     loop {
         if meet(log, table, mark, at, to) {
             return Seen {
-                tally: Tally::Open(n),
+                tally: Some(n),
                 handle,
             };
         }
         match version_in(key_at(log, table, mark, at)) {
-            VersionRead::Bad => {
+            None => {
                 return bad_seen();
             }
-            VersionRead::Read(v) => {
+            Some(v) => {
                 handle = handle.with(v);
             }
         }
@@ -138,7 +131,7 @@ pub(crate) fn look_round(log: &[u8], table: &[u32], mark: Mark, read_only: bool)
         (versions_in (keys_in (active_rows (rows log.now table.now mark)))) }
 {
     match next_version(log, table, mark) {
-        VersionRead::Bad => bad_seen(),
-        VersionRead::Read(v) => actives(log, table, mark, Handle::fresh(v, read_only)),
+        None => bad_seen(),
+        Some(v) => actives(log, table, mark, Handle::fresh(v, read_only)),
     }
 }

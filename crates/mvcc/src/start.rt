@@ -14,9 +14,9 @@ use crate::append::three::append_three;
 use crate::begun::{Begun, given, refused};
 use crate::handle::Handle;
 use crate::payload::{SET_BYTES, VERSION_BYTES, put_set, put_version};
-use crate::snapshot::{Tally, look_round};
-use bitcask::engine::{Entered, Mark, enter};
-use bitcask::{Changed, Used};
+use crate::snapshot::look_round;
+use bitcask::Used;
+use bitcask::engine::{Mark, enter};
 use keycode::Refusal;
 use keycode::code::{active_code, next_version_code, snapshot_code};
 use keycode::limits::MAX_OPEN;
@@ -32,7 +32,7 @@ fn laid(
     open: usize,
     version: u64,
     set: &[u8],
-) -> Changed
+) -> Result<Used, Refusal>
     requires { (Held log.old table.old mark) × (mark ≡ mark_of mark.used table.old) × (version < 2 ^ 64 - 1) }
     ensures { Appends log.old table.old mark (plan_by «open» version set.now) result log.new table.new }
 {
@@ -81,8 +81,8 @@ fn start(log: &mut [u8], table: &mut [u32], mark: Mark, handle: Handle, open: us
     let mut bytes = [0u8; SET_BYTES];
     let n = put_set(handle, &mut bytes);
     match laid(log, table, mark, open, handle.version, &bytes[..n]) {
-        Changed::Refused(r) => refused(r),
-        Changed::Done(used) => given(used, handle),
+        Err(r) => refused(r),
+        Ok(used) => given(used, handle),
     }
 }
 
@@ -91,14 +91,14 @@ pub fn begin(log: &mut [u8], used: Used, table: &mut [u32]) -> Begun
     ensures { Begins log.old used.len table.old result log.new table.new }
 {
     match enter(log, used, table) {
-        Entered::Refused(r) => refused(r),
-        Entered::In(mark) => {
+        Err(r) => refused(r),
+        Ok(mark) => {
             let seen = look_round(log, table, mark, false);
             let tally = seen.tally;
             let handle = seen.handle;
             match tally {
-                Tally::Bad => refused(Refusal::BadStore),
-                Tally::Open(k) => {
+                None => refused(Refusal::BadStore),
+                Some(k) => {
                     if handle.version == LAST_VERSION {
                         return refused(Refusal::VersionsSpent);
                     }

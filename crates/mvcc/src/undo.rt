@@ -10,8 +10,8 @@ ghost use Rattle.mvcc.specs.end.Ways.{store_of};
 
 use crate::end::clear::del_key;
 use crate::payload::VERSION_BYTES;
-use bitcask::Changed;
-use bitcask::append::{Room, room_after};
+use bitcask::Used;
+use bitcask::append::room_after;
 use bitcask::engine::ending::end_at;
 use bitcask::engine::row::key_at;
 use bitcask::engine::span::{rows_in, span_room};
@@ -21,7 +21,7 @@ use bitcask::entry::write::copy_into;
 use keycode::code::Code;
 use keycode::limits::KEY_BYTES;
 use keycode::number::put_number;
-use keycode::{Decoded, Key, Refusal, decode};
+use keycode::{Key, Refusal, decode};
 
 // The first byte of a Version key.
 const VERSION_TAG: u8 = 4;
@@ -34,8 +34,8 @@ fn is_write(bytes: &[u8]) -> bool
     ensures { result ≡ is_user (user_in bytes.now) }
 {
     match decode(bytes) {
-        Decoded::Refused(_) => false,
-        Decoded::Whole(key) => match key {
+        Err(_) => false,
+        Ok(key) => match key {
             Key::NextVersion => false,
             Key::TxnActive(_) => false,
             Key::TxnActiveSnapshot(_) => false,
@@ -140,30 +140,24 @@ pub(crate) fn undo(
     span: Span,
     version: u64,
     key: &[u8],
-) -> Changed
+) -> Result<Used, Refusal>
     requires { (Held log.old table.old mark) × (mark ≡ mark_of mark.used table.old) × (rank span.to (rows log.old table.old mark) ≤ length (rows log.old table.old mark)) }
     ensures { Undoes log.old table.old mark (between span.from span.to (rows log.old table.old mark)) version
         key.now result log.new table.new }
 {
     if !all_writes(log, table, mark, span) {
-        return Changed::Refused(Refusal::BadStore);
+        return Err(Refusal::BadStore);
     }
-    let once = span_room(
-        log,
-        table,
-        mark,
-        Room::Left(log.len() - mark.used.len),
-        span,
-    );
+    let once = span_room(log, table, mark, Some(log.len() - mark.used.len), span);
     let twice = span_room(log, table, mark, once, span);
     match room_after(twice, key.len(), 0) {
-        Room::Full => Changed::Refused(Refusal::LogFull),
-        Room::Left(_) => {
+        None => Err(Refusal::LogFull),
+        Some(_) => {
             let n = rows_in(log, table, mark, span);
             let mid = undo_many(log, table, mark, span.from, n, version);
             let last = del_key(log, table, mid, key);
             let used = last.used;
-            Changed::Done(used)
+            Ok(used)
         }
     }
 }

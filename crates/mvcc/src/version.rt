@@ -10,12 +10,12 @@ ghost use Rattle.bitcask.specs.engine.Walks.{down_from};
 ghost use Rattle.mvcc.specs.version.Seen.{label_by, version_of, behind_part, string_part, row_says, seen_as, seen_row, record_row, last_rows};
 
 use crate::handle::Handle;
-use crate::payload::{ValueRead, VersionRead, read_value};
+use crate::payload::{ValueRead, read_value};
 use bitcask::Bound;
 use bitcask::engine::row::{key_at, key_place, value_at, value_place};
 use bitcask::engine::walk::row_before;
-use bitcask::engine::{Mark, Near, Spot};
-use keycode::{Decoded, Key, Part, decode};
+use bitcask::engine::{Mark, Spot};
+use keycode::{Key, Part, decode};
 
 // Hidden goes on to the record below; the others decide.
 #[derive(Clone, Copy)]
@@ -44,7 +44,7 @@ fn label_of(key: &[u8]) -> Label
     ensures { result ≡ label_by (forget (decode_why max_key key.now)) }
 {
     match decode(key) {
-        Decoded::Whole(k) => match k {
+        Ok(k) => match k {
             Key::NextVersion => Label::None,
             Key::TxnActive(_) => Label::None,
             Key::TxnActiveSnapshot(_) => Label::None,
@@ -52,17 +52,17 @@ fn label_of(key: &[u8]) -> Label
             Key::Version(p, v) => Label::Of(p, v),
             Key::Unversioned(_) => Label::None,
         },
-        Decoded::Refused(_) => Label::None,
+        Err(_) => Label::None,
     }
 }
 
 // The version of a Version key. Other keys do not lie among them.
-pub(crate) fn version_of(key: &[u8]) -> VersionRead
+pub(crate) fn version_of(key: &[u8]) -> Option<u64>
     ensures { result ≡ version_of (forget (decode_why max_key key.now)) }
 {
     match label_of(key) {
-        Label::None => VersionRead::Bad,
-        Label::Of(_, v) => VersionRead::Read(v),
+        Label::None => None,
+        Label::Of(_, v) => Some(v),
     }
 }
 
@@ -115,8 +115,8 @@ fn seen_at(log: &[u8], table: &[u32], mark: Mark, spot: Spot, handle: Handle) ->
     ensures { result ≡ seen_row handle (row_at spot (rows log.now table.now mark)) }
 {
     match version_of(key_at(log, table, mark, spot)) {
-        VersionRead::Bad => Seen::Bad,
-        VersionRead::Read(v) => seen_as(log, table, mark, spot, handle, v),
+        None => Seen::Bad,
+        Some(v) => seen_as(log, table, mark, spot, handle, v),
     }
 }
 
@@ -150,10 +150,10 @@ pub(crate) fn seek(
     let mut at = end;
     loop {
         match row_before(log, table, mark, at, Bound::Included, low) {
-            Near::None => {
+            None => {
                 return Seen::Hidden;
             }
-            Near::At(p) => {
+            Some(p) => {
                 let seen = seen_at(log, table, mark, p, handle);
                 match seen {
                     Seen::Hidden => {}

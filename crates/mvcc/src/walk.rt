@@ -10,9 +10,10 @@ use crate::handle::Handle;
 use crate::version::{Record, Seen, record_at};
 use bitcask::engine::spot::next;
 use bitcask::engine::walk::row_from;
-use bitcask::engine::{Mark, Near, Spot};
-use bitcask::{Bound, Stepped, part};
-use keycode::{Order, Part, Refusal, compare};
+use bitcask::engine::{Mark, Spot};
+use bitcask::{Bound, KeyValue, part};
+use keycode::{Part, Refusal, compare};
+use std::cmp::Ordering;
 
 // Before the first group; within one, with what it says so far and the place of the key that said it; the same with a value and, behind
 // it, a key that does not decode; and past the end of the step.
@@ -21,28 +22,28 @@ pub enum Walk {
     Start,
     Within(Part, Seen),
     Broken(Part, Part),
-    Over(Stepped),
+    Over(Result<KeyValue, Refusal>),
 }
 
 fn same_string(log: &[u8], a: Part, b: Part) -> bool
     ensures { result ≡ same_string log.now a b }
 {
     match compare(part(log, a), part(log, b)) {
-        Order::Less => false,
-        Order::Equal => true,
-        Order::Greater => false,
+        Ordering::Less => false,
+        Ordering::Equal => true,
+        Ordering::Greater => false,
     }
 }
 
 // What a step answers that ends behind a group.
-fn group_answer(key: Part, seen: Seen) -> Stepped
+fn group_answer(key: Part, seen: Seen) -> Result<KeyValue, Refusal>
     ensures { result ≡ group_answer key seen }
 {
     match seen {
-        Seen::Hidden => Stepped::Refused(Refusal::Absent),
-        Seen::Gone => Stepped::Refused(Refusal::Absent),
-        Seen::Bad => Stepped::Refused(Refusal::BadStore),
-        Seen::Value(value) => Stepped::Next { key, value },
+        Seen::Hidden => Err(Refusal::Absent),
+        Seen::Gone => Err(Refusal::Absent),
+        Seen::Bad => Err(Refusal::BadStore),
+        Seen::Value(value) => Ok(KeyValue { key, value }),
     }
 }
 
@@ -65,8 +66,8 @@ fn closed(key: Part, seen: Seen, k: Part, new: Seen) -> Walk
     match seen {
         Seen::Hidden => Walk::Within(k, new),
         Seen::Gone => Walk::Within(k, new),
-        Seen::Bad => Walk::Over(Stepped::Refused(Refusal::BadStore)),
-        Seen::Value(value) => Walk::Over(Stepped::Next { key, value }),
+        Seen::Bad => Walk::Over(Err(Refusal::BadStore)),
+        Seen::Value(value) => Walk::Over(Ok(KeyValue { key, value })),
     }
 }
 
@@ -75,9 +76,9 @@ fn spoilt(key: Part, seen: Seen) -> Walk
     ensures { result ≡ spoilt_by key seen }
 {
     match seen {
-        Seen::Hidden => Walk::Over(Stepped::Refused(Refusal::BadStore)),
-        Seen::Gone => Walk::Over(Stepped::Refused(Refusal::BadStore)),
-        Seen::Bad => Walk::Over(Stepped::Refused(Refusal::BadStore)),
+        Seen::Hidden => Walk::Over(Err(Refusal::BadStore)),
+        Seen::Gone => Walk::Over(Err(Refusal::BadStore)),
+        Seen::Bad => Walk::Over(Err(Refusal::BadStore)),
         Seen::Value(v) => Walk::Broken(key, v),
     }
 }
@@ -86,7 +87,7 @@ fn opened(row: Record) -> Walk
     ensures { result ≡ opened_by row }
 {
     match row {
-        Record::Junk => Walk::Over(Stepped::Refused(Refusal::BadStore)),
+        Record::Junk => Walk::Over(Err(Refusal::BadStore)),
         Record::Good(key, seen) => Walk::Within(key, seen),
     }
 }
@@ -113,9 +114,9 @@ fn broken(log: &[u8], key: Part, value: Part, row: Record) -> Walk
         Record::Junk => Walk::Broken(key, value),
         Record::Good(k, _) => {
             if same_string(log, key, k) {
-                Walk::Over(Stepped::Refused(Refusal::BadStore))
+                Walk::Over(Err(Refusal::BadStore))
             } else {
-                Walk::Over(Stepped::Next { key, value })
+                Walk::Over(Ok(KeyValue { key, value }))
             }
         }
     }
@@ -132,13 +133,13 @@ fn next_walk(log: &[u8], walk: Walk, row: Record) -> Walk
     }
 }
 
-fn ended(walk: Walk) -> Stepped
+fn ended(walk: Walk) -> Result<KeyValue, Refusal>
     ensures { result ≡ ended_by walk }
 {
     match walk {
-        Walk::Start => Stepped::Refused(Refusal::Absent),
+        Walk::Start => Err(Refusal::Absent),
         Walk::Within(key, seen) => group_answer(key, seen),
-        Walk::Broken(key, value) => Stepped::Next { key, value },
+        Walk::Broken(key, value) => Ok(KeyValue { key, value }),
         Walk::Over(answer) => answer,
     }
 }
@@ -164,7 +165,7 @@ pub(crate) fn step_from(
     upper: Bound,
     high: &[u8],
     handle: Handle,
-) -> Stepped
+) -> Result<KeyValue, Refusal>
     requires { Held log.now table.now mark }
     ensures { result
         ≡ step_rows handle log.now (up_from upper high.now (rows log.now table.now mark) (rank from (rows log.now table.now mark))) }
@@ -173,10 +174,10 @@ pub(crate) fn step_from(
     let mut at = from;
     loop {
         match row_from(log, table, mark, at, upper, high) {
-            Near::None => {
+            None => {
                 return ended(walk);
             }
-            Near::At(p) => {
+            Some(p) => {
                 let row = record_at(log, table, mark, p, handle);
                 walk = next_walk(log, walk, row);
                 let known = over(walk);

@@ -1,7 +1,6 @@
 // Set and delete of a transaction: 13, 2, 3, 4, 5, 12, 6, 7, 8, then TxnWrite and Version. The store is entered once and its mark goes
 // along; four searches in all: the handle's key, the end of the key's versions, and each of the two keys.
-ghost use Rattle.std.specs.Prelude.{◌≡◌, ◌++◌, ◌≤◌, leb, length};
-ghost use Rattle.std.proofs.Math.Option.{none, some};
+ghost use Rattle.std.specs.Prelude.{◌≡◌, ◌++◌, ◌≤◌, leb, length, None, Some};
 ghost use Rattle.keycode.specs.Limits.{max_key, max_value};
 ghost use Rattle.mvcc.specs.payload.Payloads.{value_bytes};
 ghost use Rattle.bitcask.specs.engine.Marks.{mark_of, Held};
@@ -10,15 +9,14 @@ ghost use Rattle.mvcc.specs.write.Promises.{Writes};
 ghost use Rattle.mvcc.specs.admission.Admits.{Allows};
 ghost use Rattle.mvcc.specs.append.Appends.{Appends};
 
-use crate::admission::{Admitted, admit};
+use crate::admission::admit;
 use crate::append::pair::append_pair;
 use crate::append::size::sized;
 use crate::conflict::search;
 use crate::handle::Handle;
 use crate::payload::{GONE_TAG, VALUE_TAG};
-use bitcask::append::Check;
+use bitcask::Used;
 use bitcask::engine::Mark;
-use bitcask::{Changed, Used};
 use keycode::Refusal;
 use keycode::code::{version_code, write_code};
 
@@ -30,18 +28,18 @@ fn allowed(
     handle: Handle,
     klen: usize,
     vlen: usize,
-) -> Admitted
+) -> Result<Mark, Refusal>
     ensures { Allows log.now used table.now handle klen vlen result }
 {
     match admit(log, used, table, handle) {
-        Admitted::Refused(r) => Admitted::Refused(r),
-        Admitted::Fine(mark) => {
+        Err(r) => Err(r),
+        Ok(mark) => {
             if handle.read_only {
-                return Admitted::Refused(Refusal::ReadOnly);
+                return Err(Refusal::ReadOnly);
             }
             match sized(klen, vlen) {
-                Check::Refused(r) => Admitted::Refused(r),
-                Check::Fine => Admitted::Fine(mark),
+                Err(r) => Err(r),
+                Ok(()) => Ok(mark),
             }
         }
     }
@@ -56,7 +54,7 @@ fn laid(
     key: &[u8],
     head: &[u8],
     body: &[u8],
-) -> Changed
+) -> Result<Used, Refusal>
     requires { (Held log.old table.old mark) × (mark ≡ mark_of mark.used table.old) × (length key.now ≤ max_key) × (length head.now ≤ 1) × (length body.now ≤ max_value) }
     ensures { Appends log.old table.old mark (plan version key.now (head.now ++ body.now)) result log.new table.new }
 {
@@ -87,16 +85,16 @@ fn write(
     key: &[u8],
     head: &[u8],
     body: &[u8],
-) -> Changed
+) -> Result<Used, Refusal>
     requires { length head.now ≤ 1 }
     ensures { Writes log.old used.len table.old handle key.now (head.now ++ body.now) (length body.now)
         result log.new table.new }
 {
     match allowed(log, used, table, handle, key.len(), body.len()) {
-        Admitted::Refused(r) => Changed::Refused(r),
-        Admitted::Fine(mark) => match search(log, table, mark, handle, key) {
-            Check::Refused(r) => Changed::Refused(r),
-            Check::Fine => laid(log, table, mark, handle.version, key, head, body),
+        Err(r) => Err(r),
+        Ok(mark) => match search(log, table, mark, handle, key) {
+            Err(r) => Err(r),
+            Ok(()) => laid(log, table, mark, handle.version, key, head, body),
         },
     }
 }
@@ -108,8 +106,8 @@ pub fn set(
     handle: Handle,
     key: &[u8],
     value: &[u8],
-) -> Changed
-    ensures { Writes log.old used.len table.old handle key.now (value_bytes (some value.now)) (length value.now)
+) -> Result<Used, Refusal>
+    ensures { Writes log.old used.len table.old handle key.now (value_bytes (Some value.now)) (length value.now)
         result log.new table.new }
 {
     let tag = [VALUE_TAG; 1];
@@ -117,8 +115,14 @@ pub fn set(
 }
 
 // A tombstone's payload has no bytes of the user's, and so is never refused with 5.
-pub fn delete(log: &mut [u8], used: Used, table: &mut [u32], handle: Handle, key: &[u8]) -> Changed
-    ensures { Writes log.old used.len table.old handle key.now (value_bytes none) 0 result log.new table.new }
+pub fn delete(
+    log: &mut [u8],
+    used: Used,
+    table: &mut [u32],
+    handle: Handle,
+    key: &[u8],
+) -> Result<Used, Refusal>
+    ensures { Writes log.old used.len table.old handle key.now (value_bytes None) 0 result log.new table.new }
 {
     let tag = [GONE_TAG; 1];
     write(log, used, table, handle, key, &tag[..1], &key[..0])

@@ -1,10 +1,9 @@
 -- Document 01, 'Bench readings', the rows P1 to P11: closed equations about the definitions of the three layers. Assumes nothing.
-use Rattle.std.specs.Prelude.{ℕ, ◌≡◌, true, false, List, [], ◌∷◌, ◌++◌, length, take}
+use Rattle.std.specs.Prelude.{ℕ, ◌≡◌, true, false, List, [], ◌∷◌, ◌++◌, length, take, Err}
 use Rattle.keycode.specs.Limits.{max_key}
 use Rattle.keycode.specs.Strings.{escape, scanned, fault}
 use Rattle.keycode.specs.Prefix.{prefix_end}
 use Rattle.keycode.specs.declared.strings.Reason.TheVariants.{BadEscape}
-use Rattle.keycode.specs.declared.strings.Scanned.TheVariants.{Broken}
 use Rattle.keycode.specs.declared.prefix.End.TheVariants.{Unbounded, Raised}
 use Rattle.keycode.specs.key.Keys.{encode, version}
 use Rattle.bitcask.specs.entry.Reading.{entry_at}
@@ -32,7 +31,7 @@ pub record Bench : Type 0 where
   -- 61 00 62: 61 00 ff 62 00 00
   pub p2 : escape (0x61 ∷ 0x00 ∷ 0x62 ∷ []) ≡ 0x61 ∷ 0x00 ∷ 0xff ∷ 0x62 ∷ 0x00 ∷ 0x00 ∷ []
   -- decoding 00 01 fails: at the byte after the 00
-  pub p3 : scanned max_key 0 (0x00 ∷ 0x01 ∷ []) ≡ Broken (fault BadEscape 1)
+  pub p3 : scanned max_key 0 (0x00 ∷ 0x01 ∷ []) ≡ Err (fault BadEscape 1)
   -- prefix 61 ff: the end is none of its bytes and 62, excluded
   pub p4 : prefix_end (0x61 ∷ 0xff ∷ []) ≡ Raised 0 0x62
   -- prefix ff ff: no upper end

@@ -8,6 +8,7 @@ use native.Mathlib.Omega.{arith}
 use native.Mathlib.Numerals.{add-one}
 use lib.ListN.{length, take, drop, get_or, length-take, drop_of_length-le}
 use borrow.Author.Tests.{le-leb, lt-leb}
+use Rattle.std.specs.Prelude.{Result, ⊤, Ok, Err}
 use Rattle.keycode.specs.Tests.{pick}
 use Rattle.keycode.specs.declared.parts.Part.{Part}
 use Rattle.rows.specs.declared.fields.Field.{Field}
@@ -16,8 +17,6 @@ use Rattle.rows.specs.declared.fields.Cell.{Cell}
 use Rattle.rows.specs.declared.fields.Row.{Row}
 use Rattle.codecs.specs.declared.fields.Denial.{Denial}
 use Rattle.codecs.specs.declared.fields.Denial.TheVariants.{BadRequest, BadText}
-use Rattle.rows.specs.declared.fields.RowCheck.{RowCheck}
-use Rattle.rows.specs.declared.fields.RowCheck.TheVariants.{Whole, Denied}
 use Rattle.codecs.specs.Utf8.{well_formed}
 use Rattle.codecs.specs.Kinds.{Sound, SoundRow}
 use Rattle.rows.specs.Promises.{part_of, kind_of, val_of, kinds_of, vals_of, fields_of, within, bytes_check, text_check, field_check, first_fault, fields_check, blank}
@@ -55,61 +54,61 @@ module _ (s : List ℕ) (p : Part) where
     lies_within h = sym (le-leb (p.at + p.len) (length s) (omega arith))
 
   module _ (t : Bool) (e : t ≡ within s p) where
-    pub bytes_past : t ≡ false → Denied BadRequest ≡ bytes_check s p
+    pub bytes_past : t ≡ false → Err BadRequest ≡ bytes_check s p
     unfolding bytes_check
     bytes_past h = rw (← e, h)
 
-    pub bytes_fine : t ≡ true → Whole ≡ bytes_check s p
+    pub bytes_fine : t ≡ true → (Ok tt) ≡ bytes_check s p
     unfolding bytes_check
     bytes_fine h = rw (← e, h)
 
-    pub text-past : t ≡ false → Denied BadRequest ≡ text_check s p
+    pub text-past : t ≡ false → Err BadRequest ≡ text_check s p
     unfolding text_check
     text-past h = rw (← e, h)
 
     module _ (h : t ≡ true) (u : Bool) (x : List ℕ) (is : x ≡ part_of s p) (f : u ≡ well_formed x) where
-      pub text_wrong : u ≡ false → Denied BadText ≡ text_check s p
+      pub text_wrong : u ≡ false → Err BadText ≡ text_check s p
       unfolding text_check
       text_wrong g = rw (← e, h, ← is, ← f, g)
 
-      pub text_fine : u ≡ true → Whole ≡ text_check s p
+      pub text_fine : u ≡ true → (Ok tt) ≡ text_check s p
       unfolding text_check
       text_fine g = rw (← e, h, ← is, ← f, g)
 
 -- by the variant that the code has matched
-pub check_as : (s : List ℕ) (f g : Field) (r : RowCheck) → f ≡ g → r ≡ field_check s g → r ≡ field_check s f
+pub check_as : (s : List ℕ) (f g : Field) (r : Result ⊤ Denial) → f ≡ g → r ≡ field_check s g → r ≡ field_check s f
 check_as s f g r e h = rw e h
 
 -- ---- the loop over the fields
 
 module _ (s : List ℕ) (row : Row) (i : ℕ) (w : fields_check s (fields_of row) ≡ fields_check s (drop i (fields_of row))) where
-  pub check_end : row.len ≤ i → Whole ≡ fields_check s (fields_of row)
+  pub check_end : row.len ≤ i → (Ok tt) ≡ fields_check s (fields_of row)
   unfolding fields_check
   check_end h = sym (w ∙ rw (first-none row.cells row.len i h))
 
-  module _ (few : row.len ≤ 8) (full : length row.cells ≡ 8) (h : i < row.len) (f : Field) (is : f ≡ (get_or row.cells i blank).field) (r : RowCheck) (got : r ≡ field_check s f) where
+  module _ (few : row.len ≤ 8) (full : length row.cells ≡ 8) (h : i < row.len) (f : Field) (is : f ≡ (get_or row.cells i blank).field) (r : Result ⊤ Denial) (got : r ≡ field_check s f) where
     check-at : fields_check s (fields_of row) ≡ first_fault r (fields_check s (drop (i + 1) (fields_of row)))
     unfolding fields_check
     check-at = w ∙ rw (first_cons row.cells row.len i blank h (omega arith), got, is)
 
-    pub check_on : r ≡ Whole → fields_check s (fields_of row) ≡ fields_check s (drop (i + 1) (fields_of row))
+    pub check_on : r ≡ (Ok tt) → fields_check s (fields_of row) ≡ fields_check s (drop (i + 1) (fields_of row))
     check_on e = check-at ∙ rw e
 
-    pub check-bad : (d : Denial) → r ≡ Denied d → Denied d ≡ fields_check s (fields_of row)
+    pub check-bad : (d : Denial) → r ≡ Err d → Err d ≡ fields_check s (fields_of row)
     check-bad d e = sym (check-at ∙ rw e)
 
 -- ---- where nothing is at fault the values are sound
 
-text-sound : (s : List ℕ) (p : Part) → text_check s p ≡ Whole → well_formed (part_of s p) ≡ true
+text-sound : (s : List ℕ) (p : Part) → text_check s p ≡ (Ok tt) → well_formed (part_of s p) ≡ true
 unfolding text_check
 text-sound s p = go (within s p) (well_formed (part_of s p))
   where
-    go : (t u : Bool) → pick t (pick u Whole (Denied BadText)) (Denied BadRequest) ≡ Whole → u ≡ true
+    go : (t u : Bool) → ◌≡◌ {A = Result ⊤ Denial} (pick t (pick u (Ok tt) (Err BadText)) (Err BadRequest)) (Ok tt) → u ≡ true
     go true true e = refl
     go true false e = nope (cc)
     go false u e = nope (cc)
 
-sound_field : (s : List ℕ) (f : Field) → field_check s f ≡ Whole → InWord f → Sound (kind_of f) (val_of s f)
+sound_field : (s : List ℕ) (f : Field) → field_check s f ≡ (Ok tt) → InWord f → Sound (kind_of f) (val_of s f)
 sound_field s (Flag b) e h = tt
 sound_field s (U64 v) e h = h
 sound_field s (I64 z) e h = h
@@ -117,11 +116,11 @@ sound_field s (F64 w) e h = h
 sound_field s (Bytes p) e h = tt
 sound_field s (Text p) e h = text-sound s p e
 
-both_whole : (c d : RowCheck) → first_fault c d ≡ Whole → (c ≡ Whole) × (d ≡ Whole)
-both_whole Whole d e = (refl, e)
-both_whole (Denied x) d e = nope (cc)
+both_whole : (c d : Result ⊤ Denial) → first_fault c d ≡ (Ok tt) → (c ≡ (Ok tt)) × (d ≡ (Ok tt))
+both_whole (Ok tt) d e = (refl, e)
+both_whole (Err x) d e = nope (cc)
 
-pub sound_fields : (s : List ℕ) (cs : List Cell) → fields_check s cs ≡ Whole → InWords cs → SoundRow (kinds_of cs) (vals_of s cs)
+pub sound_fields : (s : List ℕ) (cs : List Cell) → fields_check s cs ≡ (Ok tt) → InWords cs → SoundRow (kinds_of cs) (vals_of s cs)
 unfolding fields_check
 sound_fields s [] e h = tt
 sound_fields s (c ∷ cs) e h =

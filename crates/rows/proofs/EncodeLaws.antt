@@ -11,6 +11,7 @@ use mir.Syntax.{w64}
 use mir.Val.{SFits, to_z, of_z}
 use mir.ValLaws.{to_z-of_z}
 use borrow.Author.Tests.{le-leb, lt-leb, leb-true, leb-false}
+use Rattle.std.specs.Prelude.{Option, ℕ, Some, None}
 use Rattle.keycode.specs.Tests.{pick}
 use Rattle.keycode.specs.Number.{be}
 use Rattle.keycode.specs.Buffer.{put}
@@ -19,8 +20,6 @@ use Rattle.keycode.specs.declared.parts.Part.{Part}
 use Rattle.rows.specs.declared.fields.Field.{Field}
 use Rattle.rows.specs.declared.fields.Field.TheVariants.{Flag, U64, I64, F64, Bytes, Text}
 use Rattle.rows.specs.declared.fields.Row.{Row}
-use Rattle.rows.specs.declared.encoding.Room.{Room}
-use Rattle.rows.specs.declared.encoding.Room.TheVariants.{Left, Short}
 use Rattle.codecs.specs.Signs.{Small, biased, flipped}
 use Rattle.codecs.specs.Kinds.{flag_bytes}
 use Rattle.rows.specs.Promises.{part_of, fields_of, field_bytes, row_bytes, blank}
@@ -33,11 +32,11 @@ use Rattle.rows.proofs.CheckLaws.{first_cons, first-none}
 
 -- ---- the room that is left
 
-pub room-short : (n left : ℕ) → left < n → Short ≡ room_of n left
+pub room-short : (n left : ℕ) → left < n → None ≡ room_of n left
 unfolding room_of
 room-short n left h = rw (lt-leb n left h)
 
-pub room_left : (n left : ℕ) → n ≤ left → Left (left - n) ≡ room_of n left
+pub room_left : (n left : ℕ) → n ≤ left → Some (left - n) ≡ room_of n left
 unfolding room_of
 room_left n left h = rw (le-leb n left h)
 
@@ -46,19 +45,19 @@ pub room-more : (m n left : ℕ) → m ≤ left → room_of (m + n) left ≡ roo
 unfolding room_of
 room-more m n left h = go (leb n (left - m)) refl
   where
-    go : (t : Bool) → leb n (left - m) ≡ t → pick (leb (m + n) left) (Left (left - (m + n))) Short ≡ pick (leb n (left - m)) (Left (left - m - n)) Short
+    go : (t : Bool) → leb n (left - m) ≡ t → pick (leb (m + n) left) (Some (left - (m + n))) None ≡ pick (leb n (left - m)) (Some (left - m - n)) None
     go true e = let l = leb-true n (left - m) e in let q : left - (m + n) ≡ left - m - n = omega arith in rw (le-leb (m + n) left (omega arith), le-leb n (left - m) l, q)
     go false e = rw (e, lt-leb (m + n) left (over (leb-false n (left - m) e)))
       where
         over : left - m < n → left < m + n
         over g = omega arith
 
-pub room-over : (m n left : ℕ) → left < m → Short ≡ room_of (m + n) left
+pub room-over : (m n left : ℕ) → left < m → None ≡ room_of (m + n) left
 room-over m n left h = room-short (m + n) left (omega arith)
 
 -- the loop over a string's bytes
 module _ (s : List ℕ) (room left i : ℕ) (w : room_of (length (escape s)) room ≡ room_of (length (escape_body (drop i s)) + 2) left) where
-  pub string_done : length s ≤ i → (r : Room) → r ≡ room_of 2 left → r ≡ room_of (length (escape s)) room
+  pub string_done : length s ≤ i → (r : Option ℕ) → r ≡ room_of 2 left → r ≡ room_of (length (escape s)) room
   string_done h r e = e ∙ sym (w ∙ ap (λ (n : ℕ). room_of n left) (ap (λ (t : List ℕ). length t + 2) (body_done s i h)))
 
   module _ (h : i < length s) (n : ℕ) (is : n ≡ length (escape_byte (get_or s i 0))) where
@@ -72,7 +71,7 @@ module _ (s : List ℕ) (room left i : ℕ) (w : room_of (length (escape s)) roo
     pub string_on : n ≤ left → room_of (length (escape s)) room ≡ room_of (length (escape_body (drop (i + 1) s)) + 2) (left - n)
     string_on g = string_at_lem ∙ room-more n (length (escape_body (drop (i + 1) s)) + 2) left g
 
-    pub string_short : left < n → Short ≡ room_of (length (escape s)) room
+    pub string_short : left < n → None ≡ room_of (length (escape s)) room
     string_short g = room-over n (length (escape_body (drop (i + 1) s)) + 2) left g ∙ sym string_at_lem
 
 pub string_start : (s : List ℕ) (room : ℕ) → room_of (length (escape s)) room ≡ room_of (length (escape_body (drop 0 s)) + 2) room
@@ -131,7 +130,7 @@ module _ (e b : List ℕ) (is : b ≡ e) (at : ℕ) where
   pub as_put : (d out : List ℕ) (r : ℕ) → (r ≡ at + length e) × (out ≡ put d at e) → (r ≡ at + length b) × (out ≡ put d at b)
   as_put d out r h = rw is h
 
-  pub as_left : (left : ℕ) (r : Room) → r ≡ room_of (length e) left → r ≡ room_of (length b) left
+  pub as_left : (left : ℕ) (r : Option ℕ) → r ≡ room_of (length e) left → r ≡ room_of (length b) left
   as_left left r h = rw is h
 
 -- eight bytes
@@ -142,10 +141,10 @@ module _ (b : List ℕ) (m : ℕ) (is : b ≡ be 8 m) where
   pub eight_put : (at : ℕ) (d out : List ℕ) → out ≡ put d at (be 8 m) → (at + 8 ≡ at + length b) × (out ≡ put d at b)
   eight_put at d out h = let l = ap length is ∙ length-be 8 m in (omega arith, h ∙ ap (put d at) (sym is))
 
-  pub eight_left : (left : ℕ) (r : Room) → r ≡ room_of 8 left → r ≡ room_of (length b) left
+  pub eight_left : (left : ℕ) (r : Option ℕ) → r ≡ room_of 8 left → r ≡ room_of (length b) left
   eight_left left r h = let l : 8 ≡ length b = sym (ap length is ∙ length-be 8 m) in h ∙ ap (λ (n : ℕ). room_of n left) l
 
-pub one_left : (b : List ℕ) (v : Bool) → b ≡ flag_bytes v → (left : ℕ) (r : Room) → r ≡ room_of 1 left → r ≡ room_of (length b) left
+pub one_left : (b : List ℕ) (v : Bool) → b ≡ flag_bytes v → (left : ℕ) (r : Option ℕ) → r ≡ room_of 1 left → r ≡ room_of (length b) left
 one_left b v is left r h = let l : 1 ≡ length b = sym (ap length is ∙ flag-length v) in h ∙ ap (λ (n : ℕ). room_of n left) l
 
 -- a signed number that was handed to a call is the number
@@ -181,19 +180,19 @@ field_put s f d at r out w h = record { behind = h.0; bytes = h.1; word = w }
 
 -- ---- the loops over a row's bytes
 
-pub room_says : (n left m : ℕ) → room_of n left ≡ Left m → (n ≤ left) × (m ≡ left - n)
+pub room_says : (n left m : ℕ) → room_of n left ≡ Some m → (n ≤ left) × (m ≡ left - n)
 unfolding room_of
 room_says n left m = go (leb n left) refl
   where
-    go : (t : Bool) → leb n left ≡ t → pick t (Left (left - n)) Short ≡ Left m → (n ≤ left) × (m ≡ left - n)
+    go : (t : Bool) → leb n left ≡ t → pick t (Some (left - n)) None ≡ Some m → (n ≤ left) × (m ≡ left - n)
     go true e p = (leb-true n left e, cc)
     go false e p = nope (cc)
 
-pub room-none : (n left : ℕ) → room_of n left ≡ Short → left < n
+pub room-none : (n left : ℕ) → room_of n left ≡ None → left < n
 unfolding room_of
 room-none n left = go (leb n left) refl
   where
-    go : (t : Bool) → leb n left ≡ t → pick t (Left (left - n)) Short ≡ Short → left < n
+    go : (t : Bool) → leb n left ≡ t → pick t (Some (left - n)) None ≡ None → left < n
     go true e p = nope (cc)
     go false e p = leb-false n left e
 
@@ -215,8 +214,8 @@ module _ (s : List ℕ) (row : Row) (i : ℕ) (few : row.len ≤ 8) (full : leng
   row_long = ap length row_cons ∙ length-append (field_bytes s f) (row_bytes s (drop (i + 1) (fields_of row)))
 
   module _ (room left : ℕ) (w : room_of (length (row_bytes s (fields_of row))) room ≡ room_of (length (row_bytes s (drop i (fields_of row)))) left)
-      (r : Room) (got : r ≡ room_of (length (field_bytes s f)) left) where
-    pub row_on : (m : ℕ) → r ≡ Left m → room_of (length (row_bytes s (fields_of row))) room ≡ room_of (length (row_bytes s (drop (i + 1) (fields_of row)))) m
+      (r : Option ℕ) (got : r ≡ room_of (length (field_bytes s f)) left) where
+    pub row_on : (m : ℕ) → r ≡ Some m → room_of (length (row_bytes s (fields_of row))) room ≡ room_of (length (row_bytes s (drop (i + 1) (fields_of row)))) m
     row_on m e =
         let q = room_says (length (field_bytes s f)) left m (sym got ∙ e) in
         w
@@ -224,7 +223,7 @@ module _ (s : List ℕ) (row : Row) (i : ℕ) (few : row.len ≤ 8) (full : leng
         ∙ room-more (length (field_bytes s f)) (length (row_bytes s (drop (i + 1) (fields_of row)))) left q.0
         ∙ ap (room_of (length (row_bytes s (drop (i + 1) (fields_of row))))) (sym q.1)
 
-    pub row_short : r ≡ Short → Short ≡ room_of (length (row_bytes s (fields_of row))) room
+    pub row_short : r ≡ None → None ≡ room_of (length (row_bytes s (fields_of row))) room
     row_short e =
         room-over (length (field_bytes s f)) (length (row_bytes s (drop (i + 1) (fields_of row)))) left (room-none (length (field_bytes s f)) left (sym got ∙ e))
         ∙ sym (w ∙ ap (λ (k : ℕ). room_of k left) row_long)
@@ -245,8 +244,8 @@ module _ (s : List ℕ) (row : Row) (i : ℕ) (few : row.len ≤ 8) (full : leng
         }
 
 pub row_left : (s : List ℕ) (row : Row) (i room left : ℕ) → row.len ≤ i → room_of (length (row_bytes s (fields_of row))) room ≡ room_of (length (row_bytes s (drop i (fields_of row)))) left
-    → Left left ≡ room_of (length (row_bytes s (fields_of row))) room
-row_left s row i room left h w = let z : left ≡ left - 0 = omega arith in ap Left z ∙ room_left 0 left (omega arith) ∙ sym (w ∙ ap (λ (t : List ℕ). room_of (length t) left) (row_none s row i h))
+    → Some left ≡ room_of (length (row_bytes s (fields_of row))) room
+row_left s row i room left h w = let z : left ≡ left - 0 = omega arith in ap Some z ∙ room_left 0 left (omega arith) ∙ sym (w ∙ ap (λ (t : List ℕ). room_of (length t) left) (row_none s row i h))
 
 pub put_start : (s : List ℕ) (row : Row) (d : List ℕ) → length (row_bytes s (fields_of row)) ≤ length d → Putting s row d d 0 0
 put_start s row d h = record { laid = lay-front d (row_bytes s (fields_of row)) h; words = λ u. u }

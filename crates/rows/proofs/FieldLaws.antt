@@ -9,6 +9,7 @@ use lib.ListN.{length, take, drop, get_or, set, replicate, length-append, length
 use lib.Seq.{sets, sets-eq, drop_at, drop-drop}
 use lib.Dec.{eqb}
 use borrow.Author.Tests.{le-leb, lt-leb}
+use Rattle.std.specs.Prelude.{Ok}
 use Rattle.keycode.specs.Tests.{pick}
 use Rattle.keycode.specs.Strings.{escape_body, escape}
 use Rattle.codecs.specs.declared.fields.Kind.{Kind}
@@ -19,7 +20,6 @@ use Rattle.rows.specs.declared.fields.Cell.{Cell}
 use Rattle.rows.specs.declared.fields.KindCell.{KindCell}
 use Rattle.rows.specs.declared.fields.Kinds.{Kinds}
 use Rattle.rows.specs.declared.fields.RowRead.{RowRead}
-use Rattle.rows.specs.declared.fields.RowCheck.TheVariants.{Whole}
 use Rattle.codecs.specs.declared.fields.Denial.{Denial}
 use Rattle.codecs.specs.declared.fields.Denial.TheVariants.{BadKey, BadRequest, BadText}
 use Rattle.rows.specs.declared.decoding.Taken.{Taken}
@@ -122,7 +122,7 @@ field_as k j at b r e f = rw e f
 
 -- the row, where the fields before index i stand in the cells already and the kinds ks are still to be read
 unfoldable pub finished : ℕ → List Cell → ℕ → ℕ → (ks : List Kind) → Got (Vals ks) → RowRead
-finished n cs i at ks (got v r) = record { check = Whole; row = record { cells = sets cs i (placed_row at ks v); len = n } }
+finished n cs i at ks (got v r) = record { check = (Ok tt); row = record { cells = sets cs i (placed_row at ks v); len = n } }
 finished n cs i at ks (bad d) = failed d
 
 unfoldable pub finish : ℕ → List Cell → ℕ → ℕ → List Kind → List ℕ → RowRead
@@ -208,7 +208,7 @@ module _ {kinds : Kinds} {key : List ℕ} {cs : List Cell} {at i : ℕ} (w : Rea
         over [] l = absurd (omega arith)
         over (x ∷ b) l = unfold finish finished wholly in refl
 
-    pub reading_done : length key ≤ at → record { check = Whole; row = record { cells = cs; len = kinds.len } } ≡ read_answer kinds key
+    pub reading_done : length key ≤ at → record { check = (Ok tt); row = record { cells = cs; len = kinds.len } } ≡ read_answer kinds key
     unfolding read_answer finish finished wholly
     reading_done g = sym (rw (le-leb kinds.len 8 few) (w.whole
         ∙ ap (λ (ks : List Kind). finish kinds.len cs i at ks (drop at key)) onward-none

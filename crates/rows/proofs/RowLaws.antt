@@ -8,6 +8,8 @@ use lib.ListN.{length, take, drop, replicate, length-append}
 use lib.Seq.{take_at, drop_at}
 use lib.Dec.{leb}
 use borrow.Author.Tests.{le-leb, leb-true}
+use Rattle.std.specs.Prelude.{Result, ⊤, Ok, Err, ℕ}
+use Rattle.codecs.specs.declared.fields.Denial.{Denial}
 use Rattle.keycode.specs.Tests.{pick, if_done}
 use Rattle.keycode.specs.Order.{compare_bytes}
 use Rattle.keycode.specs.Strings.{escape_body, escape, unescaped}
@@ -17,10 +19,6 @@ use Rattle.rows.specs.declared.fields.Cell.{Cell}
 use Rattle.rows.specs.declared.fields.Kinds.{Kinds}
 use Rattle.rows.specs.declared.fields.Row.{Row}
 use Rattle.rows.specs.declared.fields.RowRead.{RowRead}
-use Rattle.rows.specs.declared.fields.RowCheck.{RowCheck}
-use Rattle.rows.specs.declared.fields.RowCheck.TheVariants.{Whole, Denied as Failed}
-use Rattle.rows.specs.declared.fields.RowLength.{RowLength}
-use Rattle.rows.specs.declared.fields.RowLength.TheVariants.{Done, Denied}
 use Rattle.codecs.specs.declared.fields.Denial.TheVariants.{BadRequest}
 use Rattle.codecs.specs.Denials.{Got, got, bad}
 use Rattle.codecs.specs.Kinds.{Val, enc, Vals, SoundRow, enc_row, dec_row, cmp_row, wholly}
@@ -34,27 +32,27 @@ use Rattle.codecs.proofs.KindLaws.{decode_encode, encode_decode, rows_sort}
 -- ---- what was encoded is decoded
 
 pub read_encoded : (kinds : Kinds) (v : Vals (named kinds)) → kinds.len ≤ 8 → SoundRow (named kinds) v
-    → read_answer kinds (enc_row (named kinds) v) ≡ record { check = Whole; row = row_of (named kinds) v }
+    → read_answer kinds (enc_row (named kinds) v) ≡ record { check = (Ok tt); row = row_of (named kinds) v }
 unfolding read_answer read_as
 read_encoded kinds v few h = rw (le-leb kinds.len 8 few, decode_encode (named kinds) v h)
 
 -- what an encoding that was answered with a length says
-done_says : (row : Row) (s : List ℕ) (room n : ℕ) → Done n ≡ row_answer row s room → n ≡ length (row_bytes s (fields_of row))
+done_says : (row : Row) (s : List ℕ) (room n : ℕ) → Ok n ≡ row_answer row s room → n ≡ length (row_bytes s (fields_of row))
 unfolding row_answer
 done_says row s room n = go (leb row.len 8) (fields_check s (fields_of row))
   where
-    length-says : (m : ℕ) (t : Bool) → Done n ≡ pick t (Done m) (Denied BadRequest) → n ≡ m
+    length-says : (m : ℕ) (t : Bool) → Ok n ≡ pick t (Ok m) (Err BadRequest) → n ≡ m
     length-says m true e = cc
     length-says m false e = nope (cc)
 
-    go : (t : Bool) (c : RowCheck) → Done n ≡ pick t (length_by c (length (row_bytes s (fields_of row))) room) (Denied BadRequest) → n ≡ length (row_bytes s (fields_of row))
-    go true Whole e = length-says (length (row_bytes s (fields_of row))) (leb (length (row_bytes s (fields_of row))) room) e
-    go true (Failed d) e = nope (cc)
+    go : (t : Bool) (c : Result ⊤ Denial) → Ok n ≡ pick t (length_by c (length (row_bytes s (fields_of row))) room) (Err BadRequest) → n ≡ length (row_bytes s (fields_of row))
+    go true (Ok tt) e = length-says (length (row_bytes s (fields_of row))) (leb (length (row_bytes s (fields_of row))) room) e
+    go true (Err d) e = nope (cc)
     go false c e = nope (cc)
 
 -- a row that encode_row wrote is the row that decode_row answers, by its kinds
-pub round_trip : (kinds : Kinds) (row : Row) (s d out : List ℕ) (n : ℕ) → kinds.len ≤ 8 → named kinds ≡ kinds_of (fields_of row) → RowWrites row s d (Done n) out
-    → read_answer kinds (take n out) ≡ record { check = Whole; row = row_of (kinds_of (fields_of row)) (vals_of s (fields_of row)) }
+pub round_trip : (kinds : Kinds) (row : Row) (s d out : List ℕ) (n : ℕ) → kinds.len ≤ 8 → named kinds ≡ kinds_of (fields_of row) → RowWrites row s d (Ok n) out
+    → read_answer kinds (take n out) ≡ record { check = (Ok tt); row = row_of (kinds_of (fields_of row)) (vals_of s (fields_of row)) }
 unfolding read_answer
 round_trip kinds row s d out n few e w =
     let q = done_says row s (length d) n w.answer in
@@ -62,7 +60,7 @@ round_trip kinds row s d out n few e w =
     rw (le-leb kinds.len 8 few, t) (by (named kinds) e (w.sound refl))
   where
     by : (ks : List Kind) → ks ≡ kinds_of (fields_of row) → SoundRow (kinds_of (fields_of row)) (vals_of s (fields_of row))
-        → read_as ks (wholly (dec_row ks (row_bytes s (fields_of row)))) ≡ record { check = Whole; row = row_of (kinds_of (fields_of row)) (vals_of s (fields_of row)) }
+        → read_as ks (wholly (dec_row ks (row_bytes s (fields_of row)))) ≡ record { check = (Ok tt); row = row_of (kinds_of (fields_of row)) (vals_of s (fields_of row)) }
     by ks f g = unfold read_as row_bytes in rw (f, decode_encode (kinds_of (fields_of row)) (vals_of s (fields_of row)) g)
 
 -- ---- the decoded row stands for the values
@@ -109,7 +107,7 @@ pub record Decoded (kinds : Kinds) (key : List ℕ) (r : RowRead) : Type 0 where
   pub row : r.row ≡ row_of (named kinds) values
   pub spelled : SpellsRow key (named kinds) values r.row.cells
 
-pub decoded : (kinds : Kinds) (key : List ℕ) → AllBytes key → (r : RowRead) → r ≡ read_answer kinds key → r.check ≡ Whole → Decoded kinds key r
+pub decoded : (kinds : Kinds) (key : List ℕ) → AllBytes key → (r : RowRead) → r ≡ read_answer kinds key → r.check ≡ (Ok tt) → Decoded kinds key r
 unfolding read_answer
 decoded kinds key w r e h = go (leb kinds.len 8) refl (wholly (dec_row (named kinds) key)) refl e
   where
@@ -138,10 +136,10 @@ decoded_sort {kinds} {key} {key'} x y =
 
 -- ---- two results are one
 
-pub encode_unique : {row : Row} {s d : List ℕ} {r r' : RowLength} {out out' : List ℕ} → RowWrites row s d r out → RowWrites row s d r' out' → (r ≡ r') × (out ≡ out')
+pub encode_unique : {row : Row} {s d : List ℕ} {r r' : Result ℕ Denial} {out out' : List ℕ} → RowWrites row s d r out → RowWrites row s d r' out' → (r ≡ r') × (out ≡ out')
 encode_unique {row} {s} {d} w w' =
     let q = w.answer ∙ sym w'.answer in
-    (q, w.buffer ∙ ap (λ (x : RowLength). if_done (row_number x) (row_bytes s (fields_of row) ++ drop (length (row_bytes s (fields_of row))) d) d) q ∙ sym w'.buffer)
+    (q, w.buffer ∙ ap (λ (x : Result ℕ Denial). if_done (row_number x) (row_bytes s (fields_of row) ++ drop (length (row_bytes s (fields_of row))) d) d) q ∙ sym w'.buffer)
 
 pub decode_unique : (kinds : Kinds) (key : List ℕ) {r r' : RowRead} → r ≡ read_answer kinds key → r' ≡ read_answer kinds key → r ≡ r'
 decode_unique kinds key e f = e ∙ sym f

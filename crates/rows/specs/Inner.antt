@@ -1,13 +1,11 @@
 -- What the code's own functions promise of one field: what is left of a buffer's room, what writing it leaves, and what reading it finds.
 -- Assumes nothing.
-use Rattle.std.specs.Prelude.{ℕ, ◌+◌, ◌-◌, ◌^◌, ◌<◌, ◌≡◌, List, [], ◌∷◌, length, leb}
+use Rattle.std.specs.Prelude.{ℕ, ◌+◌, ◌-◌, ◌^◌, ◌<◌, ◌≡◌, List, [], ◌∷◌, length, leb, Option, Some, None}
 use Rattle.keycode.specs.Tests.{pick}
 use Rattle.codecs.specs.declared.fields.Kind.{Kind}
 use Rattle.rows.specs.declared.fields.Field.{Field}
 use Rattle.rows.specs.declared.fields.Field.TheVariants.{Flag, U64, I64, F64, Bytes, Text}
 use Rattle.rows.specs.declared.fields.Cell.{Cell}
-use Rattle.rows.specs.declared.encoding.Room.{Room}
-use Rattle.rows.specs.declared.encoding.Room.TheVariants.{Left, Short}
 use Rattle.rows.specs.declared.decoding.Taken.{Taken}
 use Rattle.rows.specs.declared.decoding.Taken.TheVariants.{Read, Refused}
 use Rattle.rows.specs.declared.decoding.Strung.{Strung}
@@ -21,8 +19,8 @@ use Rattle.keycode.specs.Buffer.{put}
 use Rattle.keycode.specs.Strings.{escape_body}
 
 -- n bytes taken of `left`
-unfoldable pub room_of : ℕ → ℕ → Room
-room_of n left = pick (leb n left) (Left (left - n)) Short
+unfoldable pub room_of : ℕ → ℕ → Option ℕ
+room_of n left = pick (leb n left) (Some (left - n)) None
 
 -- the numbers of fields have 64 bits
 abbrev pub InWord : Field → Type 0

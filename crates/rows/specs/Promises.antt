@@ -1,5 +1,5 @@
 -- What the two calls promise: the answer, and every byte that was lent. Document 02, W5. Assumes nothing.
-use Rattle.std.specs.Prelude.{ℕ, ◌+◌, ◌-◌, ◌≡◌, Bool, false, List, [], ◌∷◌, ◌++◌, length, take, drop, replicate, leb}
+use Rattle.std.specs.Prelude.{ℕ, ◌+◌, ◌-◌, ◌≡◌, Bool, false, List, [], ◌∷◌, ◌++◌, length, take, drop, replicate, leb, Result, Ok, Err, ⊤}
 use Rattle.keycode.specs.Tests.{pick, if_done}
 use Rattle.keycode.specs.Strings.{escape_body}
 use Rattle.keycode.specs.declared.parts.Part.{Part}
@@ -13,11 +13,7 @@ use Rattle.rows.specs.declared.fields.Row.{Row}
 use Rattle.rows.specs.declared.fields.Kinds.{Kinds}
 use Rattle.codecs.specs.declared.fields.Denial.{Denial}
 use Rattle.codecs.specs.declared.fields.Denial.TheVariants.{BadRequest, BadText}
-use Rattle.rows.specs.declared.fields.RowLength.{RowLength}
-use Rattle.rows.specs.declared.fields.RowLength.TheVariants.{Done, Denied}
 use Rattle.rows.specs.declared.fields.RowRead.{RowRead}
-use Rattle.rows.specs.declared.fields.RowCheck.{RowCheck}
-use Rattle.rows.specs.declared.fields.RowCheck.TheVariants.{Whole, Denied as Failed}
 use Rattle.codecs.specs.Denials.{denial_number, Got, got, bad}
 use Rattle.codecs.specs.Utf8.{well_formed}
 use Rattle.codecs.specs.Kinds.{Val, enc, Vals, SoundRow, enc_row, dec_row, wholly}
@@ -70,48 +66,48 @@ unfoldable pub within : List ℕ → Part → Bool
 within s p = leb (p.at + p.len) (length s)
 
 -- what is at fault in a field: 13 where its part reaches past the texts, 15 where its string is not UTF-8
-unfoldable pub bytes_check : List ℕ → Part → RowCheck
-bytes_check s p = pick (within s p) Whole (Failed BadRequest)
+unfoldable pub bytes_check : List ℕ → Part → Result ⊤ Denial
+bytes_check s p = pick (within s p) (Ok tt) (Err BadRequest)
 
-unfoldable pub text_check : List ℕ → Part → RowCheck
-text_check s p = pick (within s p) (pick (well_formed (part_of s p)) Whole (Failed BadText)) (Failed BadRequest)
+unfoldable pub text_check : List ℕ → Part → Result ⊤ Denial
+text_check s p = pick (within s p) (pick (well_formed (part_of s p)) (Ok tt) (Err BadText)) (Err BadRequest)
 
-abbrev pub field_check : List ℕ → Field → RowCheck
-field_check s (Flag b) = Whole
-field_check s (U64 v) = Whole
-field_check s (I64 v) = Whole
-field_check s (F64 w) = Whole
+abbrev pub field_check : List ℕ → Field → Result ⊤ Denial
+field_check s (Flag b) = (Ok tt)
+field_check s (U64 v) = (Ok tt)
+field_check s (I64 v) = (Ok tt)
+field_check s (F64 w) = (Ok tt)
 field_check s (Bytes p) = bytes_check s p
 field_check s (Text p) = text_check s p
 
 -- the first field at fault decides
-abbrev pub first_fault : RowCheck → RowCheck → RowCheck
-first_fault Whole c = c
-first_fault (Failed d) c = Failed d
+abbrev pub first_fault : Result ⊤ Denial → Result ⊤ Denial → Result ⊤ Denial
+first_fault (Ok tt) c = c
+first_fault (Err d) c = Err d
 
-unfoldable pub fields_check : List ℕ → List Cell → RowCheck
-fields_check s [] = Whole
+unfoldable pub fields_check : List ℕ → List Cell → Result ⊤ Denial
+fields_check s [] = (Ok tt)
 fields_check s (c ∷ cs) = first_fault (field_check s c.field) (fields_check s cs)
 
 -- where no field is at fault, 13 where `n` bytes do not fit into a buffer of `room`
-abbrev pub length_by : RowCheck → ℕ → ℕ → RowLength
-length_by Whole n room = pick (leb n room) (Done n) (Denied BadRequest)
-length_by (Failed d) n room = Denied d
+abbrev pub length_by : Result ⊤ Denial → ℕ → ℕ → Result ℕ Denial
+length_by (Ok tt) n room = pick (leb n room) (Ok n) (Err BadRequest)
+length_by (Err d) n room = Err d
 
 -- 13 over eight fields; then the first field at fault; then 13 where the buffer is too short
-unfoldable pub row_answer : Row → List ℕ → ℕ → RowLength
+unfoldable pub row_answer : Row → List ℕ → ℕ → Result ℕ Denial
 row_answer row s room =
     pick (leb row.len 8)
     (length_by (fields_check s (fields_of row)) (length (row_bytes s (fields_of row))) room)
-    (Denied BadRequest)
+    (Err BadRequest)
 
-abbrev pub row_number : RowLength → ℕ
-row_number (Done n) = 0
-row_number (Denied d) = denial_number d
+abbrev pub row_number : Result ℕ Denial → ℕ
+row_number (Ok n) = 0
+row_number (Err d) = denial_number d
 
 -- with number 0 the row's bytes stand at the front of the buffer d and its other bytes stay, and the row is one that decoding gives back:
 -- its numbers have 64 bits, its strings are UTF-8; with every other number the buffer stays whole
-pub record RowWrites (row : Row) (s d : List ℕ) (r : RowLength) (out : List ℕ) : Type 0 where
+pub record RowWrites (row : Row) (s d : List ℕ) (r : Result ℕ Denial) (out : List ℕ) : Type 0 where
   pub answer : r ≡ row_answer row s (length d)
   pub buffer : out ≡ if_done (row_number r) (row_bytes s (fields_of row) ++ drop (length (row_bytes s (fields_of row))) d) d
   pub sound : row_number r ≡ 0 → SoundRow (kinds_of (fields_of row)) (vals_of s (fields_of row))
@@ -153,16 +149,16 @@ abbrev pub no_row : Row
 no_row = record { cells = replicate 8 blank; len = 0 }
 
 abbrev pub failed : Denial → RowRead
-failed d = record { check = Failed d; row = no_row }
+failed d = record { check = Err d; row = no_row }
 
 unfoldable pub read_as : (ks : List Kind) → Got (Vals ks) → RowRead
-read_as ks (got v r) = record { check = Whole; row = row_of ks v }
+read_as ks (got v r) = record { check = (Ok tt); row = row_of ks v }
 read_as ks (bad d) = failed d
 
 -- 13 over eight kinds; then the first field at fault; then 12 for bytes left over
 unfoldable pub read_answer : Kinds → List ℕ → RowRead
 read_answer kinds key = pick (leb kinds.len 8) (read_as (named kinds) (wholly (dec_row (named kinds) key))) (failed BadRequest)
 
-abbrev pub check_number : RowCheck → ℕ
-check_number Whole = 0
-check_number (Failed d) = denial_number d
+abbrev pub check_number : Result ⊤ Denial → ℕ
+check_number (Ok tt) = 0
+check_number (Err d) = denial_number d

@@ -5,7 +5,7 @@ ghost use Rattle.codecs.specs.Kinds.{dec, read_bytes};
 ghost use Rattle.rows.specs.Promises.{failed, read_answer};
 ghost use Rattle.rows.specs.Inner.{taken_as, strung_as};
 
-use crate::fields::{Cell, Field, Kinds, Row, RowCheck, RowRead};
+use crate::fields::{Cell, Field, Kinds, Row, RowRead};
 use codecs::signs::{unbias, unflip};
 use codecs::utf8::{State, closed, feed};
 use codecs::{Denial, Kind};
@@ -171,7 +171,7 @@ fn denied(d: Denial) -> RowRead
         len: 0,
     };
     RowRead {
-        check: RowCheck::Denied(d),
+        check: Err(d),
         row: row,
     }
 }
@@ -210,7 +210,7 @@ pub fn decode_row(kinds: Kinds, key: &[u8]) -> RowRead
         len: n,
     };
     RowRead {
-        check: RowCheck::Whole,
+        check: Ok(()),
         row: row,
     }
 }

@@ -6,7 +6,7 @@ ghost use Rattle.codecs.specs.Kinds.{flag_bytes};
 ghost use Rattle.rows.specs.Promises.{within, bytes_check, text_check, field_check, fields_check, field_bytes, row_bytes, fields_of, blank, RowWrites};
 ghost use Rattle.rows.specs.Inner.{room_of, InWords, PutField};
 
-use crate::fields::{Field, Row, RowCheck, RowLength};
+use crate::fields::{Field, Row};
 use codecs::Denial;
 use codecs::signs::{bias, flip};
 use codecs::utf8::is_utf8;
@@ -14,13 +14,6 @@ use keycode::Part;
 use keycode::number::put_number;
 use keycode::parts::clip;
 use keycode::strings::{escape_into, escaped_byte_len};
-
-// What is left of a room.
-#[derive(Clone, Copy)]
-pub enum Room {
-    Left(usize),
-    Short,
-}
 
 // A row's field at index i.
 fn field_at(row: Row, i: usize) -> Field
@@ -46,74 +39,70 @@ fn is_within(p: Part, texts: &[u8]) -> bool
 }
 
 // A part that reaches past the texts is a request that makes no sense: to cut it would write the key of another row.
-fn check_bytes(p: Part, texts: &[u8]) -> RowCheck
+fn check_bytes(p: Part, texts: &[u8]) -> Result<(), Denial>
     ensures { result ≡ bytes_check texts.now p }
 {
     if is_within(p, texts) {
-        RowCheck::Whole
+        Ok(())
     } else {
-        RowCheck::Denied(Denial::BadRequest)
+        Err(Denial::BadRequest)
     }
 }
 
-fn check_text(p: Part, texts: &[u8]) -> RowCheck
+fn check_text(p: Part, texts: &[u8]) -> Result<(), Denial>
     ensures { result ≡ text_check texts.now p }
 {
     if !is_within(p, texts) {
-        return RowCheck::Denied(Denial::BadRequest);
+        return Err(Denial::BadRequest);
     }
     if is_utf8(clip(texts, p.at, p.len)) {
-        RowCheck::Whole
+        Ok(())
     } else {
-        RowCheck::Denied(Denial::BadText)
+        Err(Denial::BadText)
     }
 }
 
 // What is at fault in a field; only strings can be.
-fn check_field(field: Field, texts: &[u8]) -> RowCheck
+fn check_field(field: Field, texts: &[u8]) -> Result<(), Denial>
     ensures { result ≡ field_check texts.now field }
 {
     match field {
-        Field::Flag(_) => RowCheck::Whole,
-        Field::U64(_) => RowCheck::Whole,
-        Field::I64(_) => RowCheck::Whole,
-        Field::F64(_) => RowCheck::Whole,
+        Field::Flag(_) => Ok(()),
+        Field::U64(_) => Ok(()),
+        Field::I64(_) => Ok(()),
+        Field::F64(_) => Ok(()),
         Field::Bytes(p) => check_bytes(p, texts),
         Field::Text(p) => check_text(p, texts),
     }
 }
 
 // What is at fault in the first field of a row that has a fault.
-fn check_fields(row: Row, texts: &[u8]) -> RowCheck
+fn check_fields(row: Row, texts: &[u8]) -> Result<(), Denial>
     requires { row.len ≤ 8 }
     ensures { result ≡ fields_check texts.now (fields_of row) }
 {
     let mut i = 0;
     while i < row.len {
         match check_field(field_at(row, i), texts) {
-            RowCheck::Whole => {}
-            RowCheck::Denied(d) => {
-                return RowCheck::Denied(d);
+            Ok(()) => {}
+            Err(d) => {
+                return Err(d);
             }
         }
         i += 1;
     }
-    RowCheck::Whole
+    Ok(())
 }
 
 // n bytes taken of a room.
-fn minus(n: usize, left: usize) -> Room
+fn minus(n: usize, left: usize) -> Option<usize>
     ensures { result ≡ room_of n left }
 {
-    if left < n {
-        Room::Short
-    } else {
-        Room::Left(left - n)
-    }
+    if left < n { None } else { Some(left - n) }
 }
 
 // A string's escaped bytes and its end taken of a room.
-fn string_room(s: &[u8], room: usize) -> Room
+fn string_room(s: &[u8], room: usize) -> Option<usize>
     ensures { result ≡ room_of (length (escape s.now)) room }
 {
     let mut left = room;
@@ -121,7 +110,7 @@ fn string_room(s: &[u8], room: usize) -> Room
     while i < s.len() {
         let n = escaped_byte_len(s[i]);
         if left < n {
-            return Room::Short;
+            return None;
         }
         left -= n;
         i += 1;
@@ -130,7 +119,7 @@ fn string_room(s: &[u8], room: usize) -> Room
 }
 
 // A field's bytes taken of a room.
-fn field_room(field: Field, texts: &[u8], left: usize) -> Room
+fn field_room(field: Field, texts: &[u8], left: usize) -> Option<usize>
     ensures { result ≡ room_of (length (field_bytes texts.now field)) left }
 {
     match field {
@@ -144,7 +133,7 @@ fn field_room(field: Field, texts: &[u8], left: usize) -> Room
 }
 
 // A row's bytes taken of a room.
-fn row_room(row: Row, texts: &[u8], room: usize) -> Room
+fn row_room(row: Row, texts: &[u8], room: usize) -> Option<usize>
     requires { row.len ≤ 8 }
     ensures { result ≡ room_of (length (row_bytes texts.now (fields_of row))) room }
 {
@@ -152,16 +141,16 @@ fn row_room(row: Row, texts: &[u8], room: usize) -> Room
     let mut i = 0;
     while i < row.len {
         match field_room(field_at(row, i), texts, left) {
-            Room::Left(m) => {
+            Some(m) => {
                 left = m;
             }
-            Room::Short => {
-                return Room::Short;
+            None => {
+                return None;
             }
         }
         i += 1;
     }
-    Room::Left(left)
+    Some(left)
 }
 
 // Writes a boolean, and returns the index after it.
@@ -215,24 +204,24 @@ fn put_row(row: Row, texts: &[u8], out: &mut [u8])
 }
 
 // The row's bytes, written to the front of out; its strings are parts of texts.
-pub fn encode_row(row: Row, texts: &[u8], out: &mut [u8]) -> RowLength
+pub fn encode_row(row: Row, texts: &[u8], out: &mut [u8]) -> Result<usize, Denial>
     ensures { RowWrites row texts.now out.old result out.new }
 {
     if 8 < row.len {
-        return RowLength::Denied(Denial::BadRequest);
+        return Err(Denial::BadRequest);
     }
     match check_fields(row, texts) {
-        RowCheck::Whole => {}
-        RowCheck::Denied(d) => {
-            return RowLength::Denied(d);
+        Ok(()) => {}
+        Err(d) => {
+            return Err(d);
         }
     }
     match row_room(row, texts, out.len()) {
-        Room::Left(m) => {
+        Some(m) => {
             let n = out.len() - m;
             put_row(row, texts, out);
-            RowLength::Done(n)
+            Ok(n)
         }
-        Room::Short => RowLength::Denied(Denial::BadRequest),
+        None => Err(Denial::BadRequest),
     }
 }

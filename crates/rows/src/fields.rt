@@ -37,21 +37,9 @@ pub struct Kinds {
     pub len: usize,
 }
 
-#[derive(Clone, Copy)]
-pub enum RowLength {
-    Done(usize),
-    Denied(Denial),
-}
-
-#[derive(Clone, Copy)]
-pub enum RowCheck {
-    Whole,
-    Denied(Denial),
-}
-
 // A decoded row; with a refusal it is empty. (An enum may not hold an array, so the row stands beside the answer.)
 #[derive(Clone, Copy)]
 pub struct RowRead {
-    pub check: RowCheck,
+    pub check: Result<(), Denial>,
     pub row: Row,
 }

@@ -9,4 +9,4 @@ mod fields;
 pub use codecs::{Denial, Kind};
 pub use decoding::decode_row;
 pub use encoding::encode_row;
-pub use fields::{Cell, Field, KindCell, Kinds, Row, RowCheck, RowLength, RowRead};
+pub use fields::{Cell, Field, KindCell, Kinds, Row, RowRead};

@@ -6,7 +6,7 @@ use crate::spelling::names::{
     GET_UNVERSIONED, LAY, RAW, READ_ONLY, ROLLBACK, SCAN, SCAN_PREFIX, SET, SET_UNVERSIONED, TO,
 };
 use crate::spelling::show::{counted, located, stated, stepped};
-use bitcask::{Changed, Used};
+use bitcask::Used;
 use keycode::Refusal;
 use mvcc::{Begun, Bound, Handle};
 
@@ -44,7 +44,7 @@ fn looked(
     key: &[u8],
     value: &[u8],
     last: &[u8],
-) -> Changed {
+) -> Result<Used, Refusal> {
     let loud = a.loud;
     let after = a.after;
     let lower = bound_of(a.lower);
@@ -77,15 +77,15 @@ fn looked(
 }
 
 // Bytes behind the used length, whatever they are.
-fn raw(log: &mut [u8], used: Used, bytes: &[u8]) -> Changed {
+fn raw(log: &mut [u8], used: Used, bytes: &[u8]) -> Result<Used, Refusal> {
     let at = used.len;
     if log.len() < at {
-        return Changed::Refused(Refusal::BadRequest);
+        return Err(Refusal::BadRequest);
     }
     if log.len() - at < bytes.len() {
-        return Changed::Refused(Refusal::LogFull);
+        return Err(Refusal::LogFull);
     }
-    Changed::Done(Used {
+    Ok(Used {
         len: bitcask::entry::copy_into(bytes, log, at),
     })
 }
@@ -99,7 +99,7 @@ fn written(
     target: &mut [u8],
     key: &[u8],
     value: &[u8],
-) -> Changed {
+) -> Result<Used, Refusal> {
     match name {
         SET => mvcc::set(log, used, table, h, key, value),
         DELETE => mvcc::delete(log, used, table, h, key),

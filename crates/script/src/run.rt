@@ -5,18 +5,18 @@ use crate::spelling::names::{COMPACT, GET, SET};
 use crate::spelling::show;
 use crate::spelling::show::text;
 use crate::store::{LOG_BYTES, Store, TABLE_WORDS, held, hold, same};
-use bitcask::{Changed, Used};
-use keycode::number_of;
+use bitcask::Used;
+use keycode::{Refusal, number_of};
 use mvcc::Begun;
 
-fn numbered(s: Store, answer: Changed) -> Store {
+fn numbered(s: Store, answer: Result<Used, Refusal>) -> Store {
     let mut t = s;
     match answer {
-        Changed::Done(u) => {
+        Ok(u) => {
             t.used = u.len;
             t.number = 0;
         }
-        Changed::Refused(r) => t.number = number_of(r) as u64,
+        Err(r) => t.number = number_of(r) as u64,
     }
     t
 }

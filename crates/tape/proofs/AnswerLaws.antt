@@ -8,16 +8,15 @@ use native.Mathlib.Omega.{arith}
 use lib.ListN.{length}
 use lib.Dec.{leb}
 use borrow.Author.Tests.{le-leb, lt-leb, leb-true}
+use Rattle.std.specs.Prelude.{Result, Ok, Err}
+use Rattle.bitcask.specs.declared.request.Used.{Used}
+use Rattle.keycode.specs.declared.refusal.Refusal.{Refusal}
+use Rattle.keycode.specs.declared.parts.Part.{Part}
+use Rattle.bitcask.specs.declared.report.Counts.{Counts}
 use Rattle.keycode.specs.Tests.{pick}
 use Rattle.keycode.specs.Buffer.{put}
 use Rattle.keycode.specs.Refusals.{number_of}
-use Rattle.bitcask.specs.declared.request.Changed.{Changed}
-use Rattle.bitcask.specs.declared.request.Changed.TheVariants.{Done, Refused}
 use Rattle.bitcask.specs.recovery.Promises.{changed_number}
-use Rattle.bitcask.specs.declared.answers.Located.{Located}
-use Rattle.bitcask.specs.declared.answers.Located.TheVariants as Got
-use Rattle.bitcask.specs.declared.report.Counted.{Counted}
-use Rattle.bitcask.specs.declared.report.Counted.TheVariants as Count
 use Rattle.tape.specs.format.Layout.{record_len, value_room, laid, plainly}
 use Rattle.tape.proofs.format.LayoutLaws.{laid-long, plainly-long}
 use Rattle.tape.specs.Answers.{bytes_at, given_bytes, value_bytes, got_bytes, used_bytes, count_bytes}
@@ -45,9 +44,9 @@ bare_long c v = sym (laid-long 0 c v [] [] (omega arith) (omega arith))
 plain_long : (n c : ℕ) → record_len ≡ length (plainly n c)
 plain_long n c = sym (plainly-long n c)
 
-pub given-long : (c : ℕ) (a : Changed) (v : ℕ) → record_len ≡ length (given_bytes c a v)
-given-long c (Done u) v = bare_long c v
-given-long c (Refused r) v = plain_long (number_of r) c
+pub given-long : (c : ℕ) (a : Result Used Refusal) (v : ℕ) → record_len ≡ length (given_bytes c a v)
+given-long c (Ok u) v = bare_long c v
+given-long c (Err r) v = plain_long (number_of r) c
 
 value-long : (value : List ℕ) → record_len ≡ length (value_bytes value)
 unfolding value_bytes
@@ -57,17 +56,17 @@ value-long value = go (leb (length value) value_room) refl
     go true e = sym (laid-long 0 4 0 [] value (omega arith) (leb-true (length value) value_room e))
     go false e = plain_long 13 4
 
-pub got-long : (log : List ℕ) (a : Located) → record_len ≡ length (got_bytes log a)
-got-long log (Got.At p) = value-long (bytes_at log p)
-got-long log (Got.Refused r) = plain_long (number_of r) 4
+pub got-long : (log : List ℕ) (a : Result Part Refusal) → record_len ≡ length (got_bytes log a)
+got-long log (Ok p) = value-long (bytes_at log p)
+got-long log (Err r) = plain_long (number_of r) 4
 
-pub changed_long : (c : ℕ) (a : Changed) → record_len ≡ length (plainly (changed_number a) c)
+pub changed_long : (c : ℕ) (a : Result Used Refusal) → record_len ≡ length (plainly (changed_number a) c)
 changed_long c a = plain_long (changed_number a) c
 
-pub used-long : (a : Changed) → record_len ≡ length (used_bytes a)
-used-long (Done u) = bare_long 10 u.len
-used-long (Refused r) = plain_long (number_of r) 10
+pub used-long : (a : Result Used Refusal) → record_len ≡ length (used_bytes a)
+used-long (Ok u) = bare_long 10 u.len
+used-long (Err r) = plain_long (number_of r) 10
 
-pub count_long : (a : Counted) → record_len ≡ length (count_bytes a)
-count_long (Count.Done s) = bare_long 11 s.keys
-count_long (Count.Refused r) = plain_long (number_of r) 11
+pub count_long : (a : Result Counts Refusal) → record_len ≡ length (count_bytes a)
+count_long (Ok s) = bare_long 11 s.keys
+count_long (Err r) = plain_long (number_of r) 11

@@ -3,16 +3,17 @@
 use Prim.Native.Nat.{ℕ}
 use mathlib.Core.Path.{◌≡◌, sym, ◌∙◌, subst}
 use mathlib.Core.Bool.{Bool}
-use mathlib.Core.Option.{none, some}
 use mathlib.Core.List.{List}
 use lib.ListN.{length}
 use borrow.Author.Tests.{eq-eqb, ne_eqb}
+use Rattle.std.specs.Prelude.{Result, None, Some}
+use Rattle.bitcask.specs.declared.request.Used.{Used}
+use Rattle.keycode.specs.declared.refusal.Refusal.{Refusal}
+use Rattle.keycode.specs.declared.parts.Part.{Part}
+use Rattle.bitcask.specs.declared.report.Counts.{Counts}
 use Rattle.keycode.specs.Buffer.{put}
 use Rattle.keycode.specs.Limits.{max_open}
-use Rattle.bitcask.specs.declared.request.Changed.{Changed}
 use Rattle.bitcask.specs.recovery.Promises.{changed_number}
-use Rattle.bitcask.specs.declared.answers.Located.{Located}
-use Rattle.bitcask.specs.declared.report.Counted.{Counted}
 use Rattle.bitcask.specs.compaction.Promises.{Compacts, Counting}
 use Rattle.mvcc.specs.declared.handle.Handle.{Handle}
 use Rattle.mvcc.specs.payload.Payloads.{value_bytes}
@@ -50,16 +51,16 @@ module _ (log : List ℕ) (used : ℕ) (t : List ℕ) (c : ℕ) where
   unfolding start_call start_used
   begun_as_of v n m b = rw (ne_eqb c 1 n, ne_eqb c 2 m) (beginning_as_of b)
 
-  module _ (h : Handle) (k v : List ℕ) {r : Changed} {log' t' : List ℕ} where
-    pub set_done : c ≡ 5 → Writes log used t h k (value_bytes (some v)) (length v) r log' t' → Step (world_of log used t) (write_call c h k v r) (world_of log' (used_by r used) t')
+  module _ (h : Handle) (k v : List ℕ) {r : Result Used Refusal} {log' t' : List ℕ} where
+    pub set_done : c ≡ 5 → Writes log used t h k (value_bytes (Some v)) (length v) r log' t' → Step (world_of log used t) (write_call c h k v r) (world_of log' (used_by r used) t')
     unfolding write_call
     set_done e b = rw (eq-eqb c 5 e) (setting b)
 
-    pub delete_done : (c ≡ 5 → ⊥) → Writes log used t h k (value_bytes none) 0 r log' t' → Step (world_of log used t) (write_call c h k v r) (world_of log' (used_by r used) t')
+    pub delete_done : (c ≡ 5 → ⊥) → Writes log used t h k (value_bytes None) 0 r log' t' → Step (world_of log used t) (write_call c h k v r) (world_of log' (used_by r used) t')
     unfolding write_call
     delete_done n b = rw (ne_eqb c 5 n) (deleting b)
 
-  module _ (h : Handle) {r : Changed} {log' t' : List ℕ} where
+  module _ (h : Handle) {r : Result Used Refusal} {log' t' : List ℕ} where
     pub commit_done : c ≡ 8 → Commits log used t h r log' t' → Step (world_of log used t) (end_call c h r) (world_of log' (used_by r used) t')
     unfolding end_call
     commit_done e b = rw (eq-eqb c 8 e) (committing b)
@@ -69,11 +70,11 @@ module _ (log : List ℕ) (used : ℕ) (t : List ℕ) (c : ℕ) where
     rollback_done n b = rw (ne_eqb c 8 n) (rolling_back b)
 
 -- the used length after commands 1 to 3
-pub used-writing : (c : ℕ) (a : Changed) (used : ℕ) {u : ℕ} → c ≡ 1 → u ≡ used_by a used → u ≡ start_used c a used
+pub used-writing : (c : ℕ) (a : Result Used Refusal) (used : ℕ) {u : ℕ} → c ≡ 1 → u ≡ used_by a used → u ≡ start_used c a used
 unfolding start_used
 used-writing c a used e f = f ∙ rw (eq-eqb c 1 e)
 
-pub used_reading : (c : ℕ) (a : Changed) (used : ℕ) → (c ≡ 1 → ⊥) → used ≡ start_used c a used
+pub used_reading : (c : ℕ) (a : Result Used Refusal) (used : ℕ) → (c ≡ 1 → ⊥) → used ≡ start_used c a used
 unfolding start_used
 used_reading c a used n = rw (ne_eqb c 1 n)
 
@@ -92,10 +93,10 @@ module _ {w : World} (out : List ℕ) {out' : List ℕ} where
         long = given-long q.command a.answer a.handle.version;
       }
 
-  pub look-lays : {h : Handle} {key : List ℕ} {a : Located} → Gets w.log w.used w.table h key a → out' ≡ put out 0 (got_bytes w.log a) → Lays (Looked w h key) out record_len out'
+  pub look-lays : {h : Handle} {key : List ℕ} {a : Result Part Refusal} → Gets w.log w.used w.table h key a → out' ≡ put out 0 (got_bytes w.log a) → Lays (Looked w h key) out record_len out'
   look-lays {a = a} s g = record { answers = got_bytes w.log a; so = looked a (getting s); bytes = g; long = got-long w.log a }
 
-  pub write_lays : (h : Handle) (c : ℕ) (key value : List ℕ) (a : Changed) {log t : List ℕ} {u n : ℕ} → Step w (write_call c h key value a) (world_of log n t) → u ≡ n
+  pub write_lays : (h : Handle) (c : ℕ) (key value : List ℕ) (a : Result Used Refusal) {log t : List ℕ} {u n : ℕ} → Step w (write_call c h key value a) (world_of log n t) → u ≡ n
       → out' ≡ put out 0 (plainly (changed_number a) c) → Lays (Written w h c key value (world_of log u t)) out record_len out'
   write_lays h c key value a {log} {t} s e g =
       record {
@@ -105,7 +106,7 @@ module _ {w : World} (out : List ℕ) {out' : List ℕ} where
         long = changed_long c a;
       }
 
-  pub end_lays : (h : Handle) (slots : List ℕ) (q : Request) (a : Changed) {log t slots' : List ℕ} {u n : ℕ} → Step w (end_call q.command h a) (world_of log n t) → u ≡ n
+  pub end_lays : (h : Handle) (slots : List ℕ) (q : Request) (a : Result Used Refusal) {log t slots' : List ℕ} {u n : ℕ} → Step w (end_call q.command h a) (world_of log n t) → u ≡ n
       → slots' ≡ emptied_by slots q.slot a → out' ≡ put out 0 (plainly (changed_number a) q.command) → Lays (Ended w h slots q (world_of log u t) slots') out record_len out'
   end_lays h slots q a {log} {t} {slots'} {u} {n} s e f g =
       record {
@@ -116,10 +117,10 @@ module _ {w : World} (out : List ℕ) {out' : List ℕ} where
         long = changed_long q.command a;
       }
 
-  pub tell_lays : {a : Counted} → Counting w.log w.used w.table a → out' ≡ put out 0 (count_bytes a) → Lays (Told w) out record_len out'
+  pub tell_lays : {a : Result Counts Refusal} → Counting w.log w.used w.table a → out' ≡ put out 0 (count_bytes a) → Lays (Told w) out record_len out'
   tell_lays {a} s g = record { answers = count_bytes a; so = told a (counting s); bytes = g; long = count_long a }
 
-pub tidy_lays : (out : List ℕ) {log : List ℕ} {used : ℕ} {t g : List ℕ} {a : Changed} {t' g' out' : List ℕ} {u : ℕ} {o : Bool} → Compacts log used t g a t' g' → u ≡ used_by a used → o ≡ is_done a
+pub tidy_lays : (out : List ℕ) {log : List ℕ} {used : ℕ} {t g : List ℕ} {a : Result Used Refusal} {t' g' out' : List ℕ} {u : ℕ} {o : Bool} → Compacts log used t g a t' g' → u ≡ used_by a used → o ≡ is_done a
     → out' ≡ put out 0 (used_bytes a) → Lays (Tidied log used t g u o t' g') out record_len out'
 tidy_lays out {log} {used} {t} {g} {a} {t'} {g'} {u = u} {o = o} p e f h =
     record {

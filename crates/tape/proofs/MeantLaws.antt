@@ -1,7 +1,7 @@
 -- A step of the world, read back: what a call that a tape makes was promised, and the world after it. Assumes nothing.
 use Prim.Native.Nat.{ℕ}
 use mathlib.Core.Path.{◌≡◌, refl}
-use mathlib.Core.Option.{none, some}
+use Rattle.std.specs.Prelude.{None, Some}
 use mathlib.Core.List.{List}
 use lib.ListN.{length}
 use Rattle.mvcc.specs.payload.Payloads.{value_bytes}
@@ -32,8 +32,8 @@ Means w (begins r) w' = Left (Begins w.log w.used w.table r) (changed_to w r.ans
 Means w (begins_reading r) w' = Still (BeginsReading w.log w.used w.table r) w w'
 Means w (begins_as_of v r) w' = Still (BeginsAsOf w.log w.used w.table v r) w w'
 Means w (gets h k r) w' = Still (Gets w.log w.used w.table h k r) w w'
-Means w (sets h k v r) w' = Left (Writes w.log w.used w.table h k (value_bytes (some v)) (length v) r) (changed_to w r) w'
-Means w (deletes h k r) w' = Left (Writes w.log w.used w.table h k (value_bytes none) 0 r) (changed_to w r) w'
+Means w (sets h k v r) w' = Left (Writes w.log w.used w.table h k (value_bytes (Some v)) (length v) r) (changed_to w r) w'
+Means w (deletes h k r) w' = Left (Writes w.log w.used w.table h k (value_bytes None) 0 r) (changed_to w r) w'
 Means w (scans_prefix h p given last r) w' = Still (ScansPrefix w.log w.used w.table h p given last r) w w'
 Means w (commits h r) w' = Left (Commits w.log w.used w.table h r) (changed_to w r) w'
 Means w (rolls_back h r) w' = Left (RollsBack w.log w.used w.table h r) (changed_to w r) w'

@@ -3,16 +3,16 @@
 use Prim.Native.Nat.{ℕ, ◌<◌}
 use mathlib.Core.Path.{◌≡◌, refl, sym, ap, ◌∙◌, subst}
 use mathlib.Core.Bool.{Bool, true, false}
-use mathlib.Core.Option.{Option, none, some}
 use mathlib.Core.List.{List, ◌∷◌}
 use native.Mathlib.Omega.{arith}
 use native.Mathlib.Decide.{ℕ_discrete}
 use lib.Dec.{eqb}
 use lib.ListN.{length}
+use Rattle.std.specs.Prelude.{Result, Ok, Err, Option, None, Some}
+use Rattle.bitcask.specs.declared.request.Used.{Used}
+use Rattle.keycode.specs.declared.refusal.Refusal.{Refusal}
 use Rattle.keycode.specs.Tests.{pick}
 use Rattle.keycode.specs.Limits.{max_open}
-use Rattle.bitcask.specs.declared.request.Changed.{Changed}
-use Rattle.bitcask.specs.declared.request.Changed.TheVariants.{Done, Refused}
 use Rattle.bitcask.specs.recovery.Promises.{changed_number}
 use Rattle.mvcc.specs.declared.handle.Handle.{Handle}
 use Rattle.mvcc.specs.declared.begun.Begun.{Begun}
@@ -53,19 +53,19 @@ pub after_both : {A : Type 0} {a b c : List A} → After a b → After b c → A
 after_both p now = p
 after_both p (later q) = later (after_both p q)
 
-fair_free : (c : Call) {T : Calls} → handle_in c ≡ none → Fair c T
-fair_free c e h f = let z : ◌≡◌ {A = Option Handle} none (some h) = sym e ∙ f in let y : ◌≡◌ {A = ℕ} 0 1 = cc in absurd (omega arith)
+fair_free : (c : Call) {T : Calls} → handle_in c ≡ None → Fair c T
+fair_free c e h f = let z : ◌≡◌ {A = Option Handle} None (Some h) = sym e ∙ f in let y : ◌≡◌ {A = ℕ} 0 1 = cc in absurd (omega arith)
 
-fair_with : (c : Call) {T : Calls} (h : Handle) → handle_in c ≡ some h → Given h T → Fair c T
-fair_with c {T = T} h e g i f = let z : ◌≡◌ {A = Option Handle} (some h) (some i) = sym e ∙ f in let y : h ≡ i = cc in subst (λ (x : Handle). Given x T) y g
+fair_with : (c : Call) {T : Calls} (h : Handle) → handle_in c ≡ Some h → Given h T → Fair c T
+fair_with c {T = T} h e g i f = let z : ◌≡◌ {A = Option Handle} (Some h) (Some i) = sym e ∙ f in let y : h ≡ i = cc in subst (λ (x : Handle). Given x T) y g
 
 -- ---- the calls of a tape
 
-start_free : (c v : ℕ) (a : Begun) → handle_in (start_call c v a) ≡ none
+start_free : (c v : ℕ) (a : Begun) → handle_in (start_call c v a) ≡ None
 unfolding start_call
 start_free c v a = go (eqb c 1) (eqb c 2)
   where
-    go : (x y : Bool) → handle_in (pick x (begins a) (pick y (begins_reading a) (begins_as_of v a))) ≡ none
+    go : (x y : Bool) → handle_in (pick x (begins a) (pick y (begins_reading a) (begins_as_of v a))) ≡ None
     go true y = refl
     go false true = refl
     go false false = refl
@@ -79,19 +79,19 @@ start_gives c v a {T} e = go (eqb c 1) (eqb c 2)
     go false true = by_reading now (e, refl)
     go false false = by_as_of now (e, refl)
 
-write_with : (c : ℕ) (h : Handle) (k v : List ℕ) (a : Changed) → handle_in (write_call c h k v a) ≡ some h
+write_with : (c : ℕ) (h : Handle) (k v : List ℕ) (a : Result Used Refusal) → handle_in (write_call c h k v a) ≡ Some h
 unfolding write_call
 write_with c h k v a = go (eqb c 5)
   where
-    go : (x : Bool) → handle_in (pick x (sets h k v a) (deletes h k a)) ≡ some h
+    go : (x : Bool) → handle_in (pick x (sets h k v a) (deletes h k a)) ≡ Some h
     go true = refl
     go false = refl
 
-end_with : (c : ℕ) (h : Handle) (a : Changed) → handle_in (end_call c h a) ≡ some h
+end_with : (c : ℕ) (h : Handle) (a : Result Used Refusal) → handle_in (end_call c h a) ≡ Some h
 unfolding end_call
 end_with c h a = go (eqb c 8)
   where
-    go : (x : Bool) → handle_in (pick x (commits h a) (rolls_back h a)) ≡ some h
+    go : (x : Bool) → handle_in (pick x (commits h a) (rolls_back h a)) ≡ Some h
     go true = refl
     go false = refl
 
@@ -127,9 +127,9 @@ module _ {T : Calls} {w : World} {slots : List ℕ} (run : Run true w T) (s : Sl
   started-goes : {q : Request} {w' : World} {slots' x : List ℕ} → q.slot < 16 → Started w slots q w' slots' x → Goes T w' slots'
   started-goes {q} b (started a whole p) = calls_once (fair_free (start_call q.command q.version a) (start_free q.command q.version a)) p (go a.answer refl)
     where
-      go : (r : Changed) → a.answer ≡ r → Slotted (start_call q.command q.version a ∷ T) (filled_with slots q.slot r a.handle)
-      go (Done u) e = filled_slotted (slotted_more s) q.slot b a.handle whole (start_gives q.command q.version a (ap changed_number e))
-      go (Refused r) e = slotted_more s
+      go : (r : Result Used Refusal) → a.answer ≡ r → Slotted (start_call q.command q.version a ∷ T) (filled_with slots q.slot r a.handle)
+      go (Ok u) e = filled_slotted (slotted_more s) q.slot b a.handle whole (start_gives q.command q.version a (ap changed_number e))
+      go (Err r) e = slotted_more s
 
   module _ {h : Handle} (g : Given h T) where
     looked-goes : {k x : List ℕ} → Looked w h k x → Goes T w slots
@@ -141,9 +141,9 @@ module _ {T : Calls} {w : World} {slots : List ℕ} (run : Run true w T) (s : Sl
     ended-goes : {q : Request} {w' : World} {slots' x : List ℕ} → q.slot < 16 → Ended w h slots q w' slots' x → Goes T w' slots'
     ended-goes {q} b (ended a p) = calls_once (fair_with (end_call q.command h a) h (end_with q.command h a) g) p (go a)
       where
-        go : {c : Call} (r : Changed) → Slotted (c ∷ T) (emptied_by slots q.slot r)
-        go (Done u) = emptied_slotted (slotted_more s) q.slot b
-        go (Refused r) = slotted_more s
+        go : {c : Call} (r : Result Used Refusal) → Slotted (c ∷ T) (emptied_by slots q.slot r)
+        go (Ok u) = emptied_slotted (slotted_more s) q.slot b
+        go (Err r) = slotted_more s
 
   told-goes : {x : List ℕ} → Told w x → Goes T w slots
   told-goes (told a p) = calls_once (fair_free (counts a) refl) p (slotted_more s)
@@ -157,8 +157,8 @@ scanned-goes {h = h} {p = k} {T = T} {given = b} {before = l} run s g (goes a p 
 
 tidied-goes : {T : Calls} (b : Bench) {used : ℕ} {done : Bool} {t g x : List ℕ} → Run true b.world T → Slotted T b.slots
     → Tidied b.world.log b.world.used b.world.table b.spare used done t g x → Goes T (swapped b done g used t).world (swapped b done g used t).slots
-tidied-goes b run s (tidied (Done u) p) = calls_once run s (fair_free (compacts (Done u)) refl) (compacting b.spare p) (slotted_more s)
-tidied-goes b run s (tidied (Refused r) p) = calls_once run s (fair_free (compacts (Refused r)) refl) (compacting b.spare p) (slotted_more s)
+tidied-goes b run s (tidied (Ok u) p) = calls_once run s (fair_free (compacts (Ok u)) refl) (compacting b.spare p) (slotted_more s)
+tidied-goes b run s (tidied (Err r) p) = calls_once run s (fair_free (compacts (Err r)) refl) (compacting b.spare p) (slotted_more s)
 
 held_goes : {T : Calls} {w : World} {slots : List ℕ} {q : Request} {k v : List ℕ} {room : ℕ} {w' : World} {slots' x : List ℕ} → Run true w T → Slotted T slots → q.slot < 16
     → Given (handle_at slots q.slot) T → Held w slots q k v room w' slots' x → Goes T w' slots'

@@ -9,26 +9,22 @@ use lib.ListN.{length, take, drop, length-append}
 use lib.Seq.{take_at, length-take-le}
 use lib.Dec.{eqb, leb, ltb}
 use borrow.Author.Tests.{le-leb, lt-leb, lt-ltb, le-ltb, eq-eqb, ne_eqb}
+use Rattle.bitcask.specs.declared.answers.KeyValue.{KeyValue}
+use Rattle.std.specs.Prelude.{Result, ℕ, Ok, Err, Option, Some, None}
 use Rattle.keycode.specs.Tests.{pick}
 use Rattle.keycode.specs.Refusals.{number_of}
 use Rattle.keycode.specs.Buffer.{put}
 use Rattle.keycode.specs.Strings.{unescaped, plain_length}
 use Rattle.keycode.specs.Promises.{Unescapes, fitted, into_room}
 use Rattle.keycode.specs.declared.refusal.Refusal.{Refusal}
-use Rattle.keycode.specs.declared.refusal.Length.{Length}
-use Rattle.keycode.specs.declared.refusal.Length.TheVariants.{Done, Refused}
 use Rattle.keycode.proofs.BufferLaws.{put-none, put-put}
 use Rattle.keycode.proofs.StringLaws.{plain_done}
-use Rattle.bitcask.specs.declared.answers.Stepped.{Stepped}
-use Rattle.bitcask.specs.declared.answers.Stepped.TheVariants as Went
 use Rattle.mvcc.specs.declared.handle.Handle.{Handle}
 use Rattle.mvcc.specs.scan.Promises.{ScansPrefix}
 use Rattle.mvcc.specs.world.World.{World, scans_prefix}
 use Rattle.mvcc.specs.world.Steps.{Step, scanning_prefix}
 use Rattle.tape.specs.format.Layout.{record_len, key_room, value_room, laid, plainly}
 use Rattle.tape.proofs.format.LayoutLaws.{laid-long, plainly-long}
-use Rattle.tape.specs.declared.scan.Pace.{Pace}
-use Rattle.tape.specs.declared.scan.Pace.TheVariants.{Pair, Over}
 use Rattle.tape.specs.Answers.{pair, last, pair_if, pair_by, end_bytes, shown}
 use Rattle.tape.specs.Turns.{Scanned, ends, goes}
 use Rattle.tape.specs.Scans.{ShowsPair, ShowsLast, ShowsBy, Steps}
@@ -66,16 +62,16 @@ module _ (out : List ℕ) (n : ℕ) (kept : List ℕ) (klen : ℕ) (value : List
         }
 
 -- a key of the log, unescaped into a buffer with room for any
-module _ (s d : List ℕ) {s' : List ℕ} (part : s' ≡ s) (room : length d ≡ key_room) {r : Length} {kept : List ℕ} (u : Unescapes s' d r kept) where
+module _ (s d : List ℕ) {s' : List ℕ} (part : s' ≡ s) (room : length d ≡ key_room) {r : Result ℕ Refusal} {kept : List ℕ} (u : Unescapes s' d r kept) where
   plain_answer_lem : r ≡ plain_length s
   plain_answer_lem = u.answer ∙ go (plain_length s') refl ∙ ap plain_length part
     where
-      go : (l : Length) → plain_length s' ≡ l → into_room l (length d) ≡ l
-      go (Done n) e = unfold fitted in rw (le-leb n (length d) (omega (arith, (plain_done s' n e).2)))
-      go (Refused x) e = refl
+      go : (l : Result ℕ Refusal) → plain_length s' ≡ l → into_room l (length d) ≡ l
+      go (Ok n) e = unfold fitted in rw (le-leb n (length d) (omega (arith, (plain_done s' n e).2)))
+      go (Err x) e = refl
 
-  module _ (k : ℕ) (e : r ≡ Done k) where
-    done : plain_length s ≡ Done k
+  module _ (k : ℕ) (e : r ≡ Ok k) where
+    done : plain_length s ≡ Ok k
     done = sym plain_answer_lem ∙ e
 
     pub kept-short : k ≤ key_room
@@ -87,15 +83,15 @@ module _ (s d : List ℕ) {s' : List ℕ} (part : s' ≡ s) (room : length d ≡
         let long : length (unescaped s') ≡ k = ap (λ (x : List ℕ). length (unescaped x)) part ∙ sym (plain_done s k done).1 in
         ap (take k) lies ∙ take_at (unescaped s') (drop (length (unescaped s')) d) k long ∙ ap unescaped part
 
-    pub next-shown : (value : List ℕ) {value' : List ℕ} → value' ≡ value → (out : List ℕ) (n : ℕ) (p : Pace) (out' : List ℕ)
+    pub next-shown : (value : List ℕ) {value' : List ℕ} → value' ≡ value → (out : List ℕ) (n : ℕ) (p : Option ℕ) (out' : List ℕ)
         → ShowsBy (pair_if (leb (length value') value_room) (ltb (n + 1) (length out / record_len)) (take k kept) value') n out p kept out'
         → ShowsBy (pair_by (plain_length s) (ltb (n + 1) (length out / record_len)) (unescaped s) value) n out p kept out'
     next-shown value q out n p out' = rw (done, kept-key, q) (λ x. x)
 
-  pub key_refused : (x : Refusal) → r ≡ Refused x → (value out : List ℕ) (n : ℕ) {out' : List ℕ} → out' ≡ put out (record_len * n) (plainly (number_of x) 7)
+  pub key_refused : (x : Refusal) → r ≡ Err x → (value out : List ℕ) (n : ℕ) {out' : List ℕ} → out' ≡ put out (record_len * n) (plainly (number_of x) 7)
       → ShowsLast (pair_by (plain_length s) (ltb (n + 1) (length out / record_len)) (unescaped s) value) n out out'
   key_refused x e value out n f =
-      let q : plain_length s ≡ Refused x = sym plain_answer_lem ∙ e in
+      let q : plain_length s ≡ Err x = sym plain_answer_lem ∙ e in
       record { answer = plainly (number_of x) 7; is = rw q; lies = f; long = plainly-long (number_of x) 7 }
 
 -- ---- the end
@@ -120,18 +116,18 @@ module _ (n : ℕ) where
 
 -- ---- one step
 
-module _ (w : World) (h : Handle) (prefix : List ℕ) (n : ℕ) (given : Bool) (before out kept' out' : List ℕ) {s : Stepped}
+module _ (w : World) (h : Handle) (prefix : List ℕ) (n : ℕ) (given : Bool) (before out kept' out' : List ℕ) {s : Result KeyValue Refusal}
     (x : ScansPrefix w.log w.used w.table h prefix given before s) where
-  pub step-shown : (t : Stepped) (p : Pace) → s ≡ t → ShowsBy (shown w.log (length out / record_len) n t) n out p kept' out' → Steps w h prefix n given before out p kept' out'
+  pub step-shown : (t : Result KeyValue Refusal) (p : Option ℕ) → s ≡ t → ShowsBy (shown w.log (length out / record_len) n t) n out p kept' out' → Steps w h prefix n given before out p kept' out'
   step-shown t p e y =
       record {
         answer = s;
         step = scanning_prefix x;
-        shows = subst (λ (z : Stepped). ShowsBy (shown w.log (length out / record_len) n z) n out p kept' out') (sym e) y;
+        shows = subst (λ (z : Result KeyValue Refusal). ShowsBy (shown w.log (length out / record_len) n z) n out p kept' out') (sym e) y;
       }
 
-  pub step-ended : (r : Refusal) → s ≡ Went.Refused r → out' ≡ put out (record_len * n) (end_bytes n (number_of r)) → Steps w h prefix n given before out Over kept' out'
-  step-ended r e f = step-shown (Went.Refused r) Over e (record { answer = end_bytes n (number_of r); is = refl; lies = f; long = end_long n (number_of r) })
+  pub step-ended : (r : Refusal) → s ≡ Err r → out' ≡ put out (record_len * n) (end_bytes n (number_of r)) → Steps w h prefix n given before out None kept' out'
+  step-ended r e f = step-shown (Err r) None e (record { answer = end_bytes n (number_of r); is = refl; lies = f; long = end_long n (number_of r) })
 
 -- ---- all steps
 
@@ -147,7 +143,7 @@ pub record Scanning (w : World) (h : Handle) (prefix d kept : List ℕ) (klen n 
   pub room : length kept ≡ key_room
 
 -- a pair, and the scan behind its key
-one_more_lem : {w : World} {h : Handle} {prefix : List ℕ} {room n : ℕ} {given : Bool} {before : List ℕ} (s : Stepped) {key value x before' : List ℕ} → Step w (scans_prefix h prefix given before s) w
+one_more_lem : {w : World} {h : Handle} {prefix : List ℕ} {room n : ℕ} {given : Bool} {before : List ℕ} (s : Result KeyValue Refusal) {key value x before' : List ℕ} → Step w (scans_prefix h prefix given before s) w
     → shown w.log room n s ≡ pair key value → before' ≡ key → Scanned w h prefix room (ltb 0 (n + 1)) before' (n + 1) x → Scanned w h prefix room given before n (laid 0 7 0 key value ++ x)
 one_more_lem {w} {h} {prefix} {room} {n} {given} {before} s {key} {value} {x} {before'} step is b t = goes s step is (rw (lt-ltb 0 (n + 1) (omega arith), b) at t)
 
@@ -166,10 +162,10 @@ module _ {w : World} {h : Handle} {prefix d kept : List ℕ} {klen n : ℕ} {out
       let r : 0 + length g.answers ≤ length d = omega (arith, g.many, g.fits) in
       e ∙ ap (λ (o : List ℕ). put o (record_len * n) x) g.bytes ∙ ap (λ (i : ℕ). put (put d 0 g.answers) i x) m ∙ put-put d 0 g.answers r x
 
-  module _ {kept' out' : List ℕ} {p : Pace} (s : Steps w h prefix n (ltb 0 n) (take klen kept) out p kept' out') where
-    pub scan_turn : (k : ℕ) → p ≡ Pair k → length kept' ≡ length kept → length out' ≡ length out → Scanning w h prefix d kept' k (n + 1) out'
+  module _ {kept' out' : List ℕ} {p : Option ℕ} (s : Steps w h prefix n (ltb 0 n) (take klen kept) out p kept' out') where
+    pub scan_turn : (k : ℕ) → p ≡ Some k → length kept' ≡ length kept → length out' ≡ length out → Scanning w h prefix d kept' k (n + 1) out'
     scan_turn k e a b =
-        let y : ShowsPair (shown w.log (length out / record_len) n s.answer) n out k kept' out' = subst (λ (q : Pace). ShowsBy (shown w.log (length out / record_len) n s.answer) n out q kept' out') e s.shows in
+        let y : ShowsPair (shown w.log (length out / record_len) n s.answer) n out k kept' out' = subst (λ (q : Option ℕ). ShowsBy (shown w.log (length out / record_len) n s.answer) n out q kept' out') e s.shows in
         let is : shown w.log (length d / record_len) n s.answer ≡ pair y.key y.value = subst (λ (m : ℕ). shown w.log (m / record_len) n s.answer ≡ pair y.key y.value) g.long y.is in
         let l : List ℕ = laid 0 7 0 y.key y.value in
         record {
@@ -183,9 +179,9 @@ module _ {w : World} {h : Handle} {prefix d kept : List ℕ} {klen n : ℕ} {out
           room = a ∙ g.room;
         }
 
-    pub scan_over : p ≡ Over → Lays (Scanned w h prefix (length d / record_len) false [] 0) d (record_len * (n + 1)) out'
+    pub scan_over : p ≡ None → Lays (Scanned w h prefix (length d / record_len) false [] 0) d (record_len * (n + 1)) out'
     scan_over e =
-        let y : ShowsLast (shown w.log (length out / record_len) n s.answer) n out out' = subst (λ (q : Pace). ShowsBy (shown w.log (length out / record_len) n s.answer) n out q kept' out') e s.shows in
+        let y : ShowsLast (shown w.log (length out / record_len) n s.answer) n out out' = subst (λ (q : Option ℕ). ShowsBy (shown w.log (length out / record_len) n s.answer) n out q kept' out') e s.shows in
         let is : shown w.log (length d / record_len) n s.answer ≡ last y.answer = subst (λ (m : ℕ). shown w.log (m / record_len) n s.answer ≡ last y.answer) g.long y.is in
         record {
           answers = g.answers ++ y.answer;

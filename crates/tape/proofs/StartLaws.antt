@@ -8,11 +8,12 @@ use native.Mathlib.Omega.{arith}
 use native.Mathlib.Decide.{dec_lt}
 use lib.Dec.{eqb}
 use lib.ListN.{length, get_or, length-replicate, get_or-replicate, get_or-eq_default}
+use Rattle.std.specs.Prelude.{Result, Ok}
+use Rattle.bitcask.specs.declared.request.Used.{Used}
+use Rattle.keycode.specs.declared.refusal.Refusal.{Refusal}
 use Rattle.keycode.specs.Tests.{pick}
 use Rattle.keycode.specs.Limits.{max_log}
 use Rattle.bitcask.specs.keydir.Slots.{slot_words as table_words}
-use Rattle.bitcask.specs.declared.request.Changed.{Changed}
-use Rattle.bitcask.specs.declared.request.Changed.TheVariants.{Done}
 use Rattle.bitcask.specs.recovery.Promises.{Opens}
 use Rattle.bitcask.proofs.recovery.OpenLaws.{open_empty}
 use Rattle.mvcc.specs.world.World.{World, Calls, opens}
@@ -40,12 +41,12 @@ empty_slotted T = record { long = length-replicate {A = ℕ} all_words 0; given 
         let z : ◌≡◌ {A = Bool} true false = sym f ∙ ap (λ (n : ℕ). not (eqb n 0)) (zero-at all_words (slot_words * i)) in
         let y : ◌≡◌ {A = ℕ} 0 1 = ap (λ (b : Bool). pick b 0 1) z in omega arith
 
-started : {log t t' : List ℕ} → Opens log 0 t (Done (record { len = 0 })) t' → Run true (world_of log 0 t') (opens (Done (record { len = 0 })) ∷ [])
+started : {log t t' : List ℕ} → Opens log 0 t (Ok (record { len = 0 })) t' → Run true (world_of log 0 t') (opens (Ok (record { len = 0 })) ∷ [])
 started {log} {t} o = first log t o
 
-pub tape_starts : {log t t' : List ℕ} {r : Changed} → Opens log 0 t r t' → length log ≤ max_log → length t % table_words ≡ 0
-    → Run true (world_of log 0 t') (opens (Done (record { len = 0 })) ∷ []) × Slotted (opens (Done (record { len = 0 })) ∷ []) (zeros all_words)
-tape_starts {log} {t} {t'} o h k = (started (subst (λ (x : Changed). Opens log 0 t x t') (open_empty o h k).0 o), empty_slotted _)
+pub tape_starts : {log t t' : List ℕ} {r : Result Used Refusal} → Opens log 0 t r t' → length log ≤ max_log → length t % table_words ≡ 0
+    → Run true (world_of log 0 t') (opens (Ok (record { len = 0 })) ∷ []) × Slotted (opens (Ok (record { len = 0 })) ∷ []) (zeros all_words)
+tape_starts {log} {t} {t'} o h k = (started (subst (λ (x : Result Used Refusal). Opens log 0 t x t') (open_empty o h k).0 o), empty_slotted _)
 
 -- ---- the records
 
@@ -57,8 +58,8 @@ tape_runs {T = T} b run s over = record { calls = T; after = now; run = run; slo
 tape_runs {T = T} b run s (turned {b₁ = c} t ts) = let g = turn_runs b run s t in goes_on g (tape_runs {T = (turn_runs b run s t).calls} c g.run g.slotted ts)
 
 -- from the program's own start
-pub tape_from_start : {room : ℕ} {log spare t t' : List ℕ} {r : Changed} {rs : List (List ℕ)} {b' : Bench} → Opens log 0 t r t' → length log ≤ max_log → length t % table_words ≡ 0
-    → Taped room (record { world = world_of log 0 t'; spare = spare; slots = zeros all_words; other = false }) rs b' → Goes (opens (Done (record { len = 0 })) ∷ []) b'.world b'.slots
+pub tape_from_start : {room : ℕ} {log spare t t' : List ℕ} {r : Result Used Refusal} {rs : List (List ℕ)} {b' : Bench} → Opens log 0 t r t' → length log ≤ max_log → length t % table_words ≡ 0
+    → Taped room (record { world = world_of log 0 t'; spare = spare; slots = zeros all_words; other = false }) rs b' → Goes (opens (Ok (record { len = 0 })) ∷ []) b'.world b'.slots
 tape_from_start {log = log} {spare = spare} {t' = t'} o h k ts =
     let p = tape_starts o h k in
     tape_runs (record { world = world_of log 0 t'; spare = spare; slots = zeros all_words; other = false }) p.0 p.1 ts

@@ -6,6 +6,7 @@ use mathlib.Core.Bool.{Bool, true, false, not}
 use mathlib.Core.List.{List, []}
 use lib.ListN.{length, take, drop}
 use borrow.Author.Tests.{eq-eqb, ne_eqb, le-leb, lt-leb}
+use Rattle.std.specs.Prelude.{Ok, Err}
 use Rattle.keycode.specs.Buffer.{put}
 use Rattle.keycode.specs.declared.refusal.Refusal.TheVariants.{BadRequest}
 use Rattle.bitcask.specs.declared.request.Used.{Used}
@@ -16,7 +17,6 @@ use Rattle.tape.specs.format.Requests.{fields_of, key_in, value_in}
 use Rattle.tape.specs.format.Slots.{all_words, handle_at}
 use Rattle.tape.proofs.format.LayoutLaws.{plainly-long}
 use Rattle.tape.specs.declared.state.Turn.{Turn}
-use Rattle.tape.specs.declared.state.Taken.TheVariants as Took
 use Rattle.tape.specs.Turns.{Started, Looked, Written, Scanned, Ended, Tidied, Told, Held, looking, writing, scanning, ending, Bench, world_of, bench_of, swapped, Carried, starting, holding, tidying, telling, admitted, Turned, short, bad, good}
 use Rattle.tape.specs.Promises.{Lays, lent_well, Lent, Takes}
 
@@ -121,11 +121,11 @@ module _ (log spare : List ℕ) (used : Used) (t slots r : List ℕ) (room : ℕ
 -- ---- the buffers as they were lent
 
 module _ (l : Lent) (used : ℕ) (other : Bool) (r : List ℕ) where
-  pub take_short : length l.out < record_len → Takes l used other r (Took.Refused BadRequest) l
+  pub take_short : length l.out < record_len → Takes l used other r (Err BadRequest) l
   unfolding lent_well
   take_short h = record { well = rw (lt-leb record_len (length l.out) h); turn = (refl, refl) }
 
-  pub take-slots : record_len ≤ length l.out → (length l.slots ≡ all_words → ⊥) → Takes l used other r (Took.Refused BadRequest) l
+  pub take-slots : record_len ≤ length l.out → (length l.slots ≡ all_words → ⊥) → Takes l used other r (Err BadRequest) l
   unfolding lent_well
   take-slots h n = record { well = rw (le-leb record_len (length l.out) h, ne_eqb (length l.slots) all_words n); turn = (refl, refl) }
 
@@ -160,16 +160,16 @@ module _ (l : Lent) (used : ℕ) {other : Bool} (r : List ℕ) (l' : Lent) (h : 
   pub take-first : other ≡ false
       → Lays (Turned (bench_of false l.first l.second used l.table l.slots) r (length l.out / record_len) (bench_of a.other l'.first l'.second a.used.len l'.table l'.slots))
       l.out a.len l'.out
-      → Takes l used other r (Took.Done a) l'
+      → Takes l used other r (Ok a) l'
   take-first o p =
-      subst (λ (b : Bool). Takes l used b r (Took.Done a) l') (sym o) (record { well = well_lent l h e; turn = p })
+      subst (λ (b : Bool). Takes l used b r (Ok a) l') (sym o) (record { well = well_lent l h e; turn = p })
 
   pub take_second : other ≡ true
       → Lays (Turned (bench_of false l.second l.first used l.table l.slots) r (length l.out / record_len) (bench_of a.other l'.second l'.first a.used.len l'.table l'.slots))
       l.out a.len l'.out
-      → Takes l used other r (Took.Done (record { used = a.used; other = not a.other; len = a.len })) l'
+      → Takes l used other r (Ok (record { used = a.used; other = not a.other; len = a.len })) l'
   take_second o p =
-      subst (λ (b : Bool). Takes l used b r (Took.Done (record { used = a.used; other = not a.other; len = a.len })) l') (sym o)
+      subst (λ (b : Bool). Takes l used b r (Ok (record { used = a.used; other = not a.other; len = a.len })) l') (sym o)
       (record {
         well = well_lent l h e;
         turn = subst (λ (b : Bench). Lays (Turned (bench_of true l.first l.second used l.table l.slots) r (length l.out / record_len) b) l.out a.len l'.out)

@@ -6,9 +6,11 @@ use mathlib.Core.Bool.{Bool, true, false}
 use mathlib.Core.List.{List, ◌++◌}
 use native.Mathlib.Omega.{arith}
 use lib.ListN.{length}
+use Rattle.std.specs.Prelude.{Result, Ok, Err}
+use Rattle.bitcask.specs.declared.request.Used.{Used}
+use Rattle.keycode.specs.declared.refusal.Refusal.{Refusal}
 use Rattle.keycode.specs.Buffer.{put}
 use Rattle.keycode.specs.Tests.{pick}
-use Rattle.bitcask.specs.declared.request.Changed.{Changed}
 use Rattle.bitcask.specs.recovery.Agree.{Agrees}
 use Rattle.bitcask.specs.recovery.Promises.{changed_number}
 use Rattle.bitcask.proofs.compaction.CompactUnique.{compacts_unique}
@@ -21,8 +23,6 @@ use Rattle.tape.specs.format.Layout.{laid, plainly}
 use Rattle.tape.specs.Answers.{given_bytes, filled_with, got_bytes, pair, last, shown, emptied_by, used_bytes, count_bytes}
 use Rattle.tape.specs.Turns.{Started, started, Looked, looked, Written, written, Scanned, ends, goes, Ended, ended, Tidied, tidied, Told, told, Held, looking, writing, scanning, ending, Bench, bench_of, in_place, swapped, Carried, starting, holding, tidying, telling, Turned, short, bad, good}
 use Rattle.tape.specs.declared.state.Turn.{Turn}
-use Rattle.tape.specs.declared.state.Taken.{Taken}
-use Rattle.tape.specs.declared.state.Taken.TheVariants as Took
 use Rattle.tape.specs.Promises.{Lent, Takes}
 use Rattle.tape.proofs.AdmitLaws.{held_commands}
 use Rattle.tape.proofs.UniqueSteps.{start_unique, look_unique, write_unique, step_unique, end_unique, count_unique}
@@ -43,12 +43,12 @@ module _ {w : World} (g : Agrees w.log w.used w.table) where
   looked_one (looked a p) (looked a' p') = ap (got_bytes w.log) (look_unique g p p')
 
   written_one : {h : Handle} {c : ℕ} {k v : List ℕ} {w₁ w₂ : World} {x₁ x₂ : List ℕ} → Written w h c k v w₁ x₁ → Written w h c k v w₂ x₂ → (w₁ ≡ w₂) × (x₁ ≡ x₂)
-  written_one {h} {c} {k} {v} (written a p) (written a' p') = let e = write_unique g c h k v p p' in (e.1, ap (λ (b : Changed). plainly (changed_number b) c) e.0)
+  written_one {h} {c} {k} {v} (written a p) (written a' p') = let e = write_unique g c h k v p p' in (e.1, ap (λ (b : Result Used Refusal). plainly (changed_number b) c) e.0)
 
   ended_one : {h : Handle} {s : List ℕ} {q : Request} {w₁ w₂ : World} {s₁ s₂ x₁ x₂ : List ℕ} → Ended w h s q w₁ s₁ x₁ → Ended w h s q w₂ s₂ x₂ → (w₁ ≡ w₂) × (s₁ ≡ s₂) × (x₁ ≡ x₂)
   ended_one {h} {s} {q} (ended a p) (ended a' p') =
       let e = end_unique g q.command h p p' in
-      (e.1, ap (emptied_by s q.slot) e.0, ap (λ (b : Changed). plainly (changed_number b) q.command) e.0)
+      (e.1, ap (emptied_by s q.slot) e.0, ap (λ (b : Result Used Refusal). plainly (changed_number b) q.command) e.0)
 
   told_one : {x₁ x₂ : List ℕ} → Told w x₁ → Told w x₂ → x₁ ≡ x₂
   told_one (told a p) (told a' p') = ap count_bytes (count_unique g p p')
@@ -89,7 +89,7 @@ tidied_one : (b : Bench) {u₁ u₂ : ℕ} {o₁ o₂ : Bool} {t₁ t₂ g₁ g�
     → (swapped b o₁ g₁ u₁ t₁ ≡ swapped b o₂ g₂ u₂ t₂) × (x₁ ≡ x₂)
 tidied_one b a (tidied r {t' = t₁} {spare' = g₁} p) (tidied r' {t' = t₂} {spare' = g₂} p') =
     let e = compacts_unique b.world.log b.world.used b.world.table a b.spare p p' in (
-      ap (λ (y : Changed). swapped b (is_done y) g₁ (used_by y b.world.used) t₁) e.0
+      ap (λ (y : Result Used Refusal). swapped b (is_done y) g₁ (used_by y b.world.used) t₁) e.0
           ∙ ap (λ (y : List ℕ). swapped b (is_done r') g₁ (used_by r' b.world.used) y) e.1
           ∙ ap (λ (y : List ℕ). swapped b (is_done r') y (used_by r' b.world.used) t₂) e.2,
       ap used_bytes e.0,
@@ -153,16 +153,16 @@ lent_one {l₁} {l₂} a b c d e =
     ∙ ap (λ (x : List ℕ). record { first = l₂.first; second = l₂.second; table = l₂.table; slots = x; out = l₁.out }) d
     ∙ ap (λ (x : List ℕ). record { first = l₂.first; second = l₂.second; table = l₂.table; slots = l₂.slots; out = x }) e
 
-pub take_unique : (l : Lent) (used : ℕ) (other : Bool) (r : List ℕ) (a₁ a₂ : Taken) {l₁ l₂ : Lent}
+pub take_unique : (l : Lent) (used : ℕ) (other : Bool) (r : List ℕ) (a₁ a₂ : Result Turn Refusal) {l₁ l₂ : Lent}
     → Agrees (bench_of other l.first l.second used l.table l.slots).world.log (bench_of other l.first l.second used l.table l.slots).world.used
     (bench_of other l.first l.second used l.table l.slots).world.table
     → Takes l used other r a₁ l₁ → Takes l used other r a₂ l₂ → (a₁ ≡ a₂) × (l₁ ≡ l₂)
-take_unique l used other r (Took.Done t₁) (Took.Done t₂) g p₁ p₂ =
+take_unique l used other r (Ok t₁) (Ok t₂) g p₁ p₂ =
     let e = turn_unique (bench_of other l.first l.second used l.table l.slots) g p₁.turn.so p₂.turn.so in
     let b = bench_one t₁.other t₂.other e.0 in (
-      ap Took.Done (turn_one b.3 b.0 (p₁.turn.long ∙ ap length e.1 ∙ sym p₂.turn.long)),
+      ap Ok (turn_one b.3 b.0 (p₁.turn.long ∙ ap length e.1 ∙ sym p₂.turn.long)),
       lent_one b.1 b.2 b.4 b.5 (p₁.turn.bytes ∙ ap (put l.out 0) e.1 ∙ sym p₂.turn.bytes),
     )
-take_unique l used other r (Took.Done t₁) (Took.Refused e₂) g p₁ p₂ = not_both (sym p₁.well) (sym p₂.well)
-take_unique l used other r (Took.Refused e₁) (Took.Done t₂) g p₁ p₂ = not_both (sym p₂.well) (sym p₁.well)
-take_unique l used other r (Took.Refused e₁) (Took.Refused e₂) g p₁ p₂ = (ap Took.Refused (p₁.turn.0 ∙ sym p₂.turn.0), p₁.turn.1 ∙ sym p₂.turn.1)
+take_unique l used other r (Ok t₁) (Err e₂) g p₁ p₂ = not_both (sym p₁.well) (sym p₂.well)
+take_unique l used other r (Err e₁) (Ok t₂) g p₁ p₂ = not_both (sym p₂.well) (sym p₁.well)
+take_unique l used other r (Err e₁) (Err e₂) g p₁ p₂ = (ap Err (p₁.turn.0 ∙ sym p₂.turn.0), p₁.turn.1 ∙ sym p₂.turn.1)

@@ -1,13 +1,12 @@
 -- What the parts of a scan do: one step shown in one record, and the scan from its first step to its end. Assumes nothing.
-use Rattle.std.specs.Prelude.{ℕ, ◌+◌, ◌*◌, ◌/◌, ◌≤◌, ◌<◌, ◌≡◌, Bool, List, length, take}
+use Rattle.bitcask.specs.declared.answers.KeyValue.{KeyValue}
+use Rattle.keycode.specs.declared.refusal.Refusal.{Refusal}
+use Rattle.std.specs.Prelude.{ℕ, ◌+◌, ◌*◌, ◌/◌, ◌≤◌, ◌<◌, ◌≡◌, Bool, List, length, take, Result, Option, Some, None}
 use Rattle.keycode.specs.Buffer.{put}
-use Rattle.bitcask.specs.declared.answers.Stepped.{Stepped}
 use Rattle.mvcc.specs.declared.handle.Handle.{Handle}
 use Rattle.mvcc.specs.world.World.{World, scans_prefix}
 use Rattle.mvcc.specs.world.Steps.{Step}
 use Rattle.tape.specs.format.Layout.{record_len, key_room, laid}
-use Rattle.tape.specs.declared.scan.Pace.{Pace}
-use Rattle.tape.specs.declared.scan.Pace.TheVariants as Paces
 use Rattle.tape.specs.Answers.{Shown, pair, last, shown}
 
 -- the record after n pairs, and the last key kept in the first bytes of a lent buffer
@@ -27,12 +26,12 @@ pub record ShowsLast (what : Shown) (n : ℕ) (out out' : List ℕ) : Type 0 whe
   pub lies : out' ≡ put out (record_len * n) answer
   pub long : length answer ≡ record_len
 
-abbrev pub ShowsBy : Shown → ℕ → List ℕ → Pace → List ℕ → List ℕ → Type 0
-ShowsBy what n out (Paces.Pair k) kept' out' = ShowsPair what n out k kept' out'
-ShowsBy what n out Paces.Over kept' out' = ShowsLast what n out out'
+abbrev pub ShowsBy : Shown → ℕ → List ℕ → Option ℕ → List ℕ → List ℕ → Type 0
+ShowsBy what n out (Some k) kept' out' = ShowsPair what n out k kept' out'
+ShowsBy what n out None kept' out' = ShowsLast what n out out'
 
 -- one step behind the key that was kept, and what it shows
-pub record Steps (w : World) (h : Handle) (prefix : List ℕ) (n : ℕ) (given : Bool) (before out : List ℕ) (p : Pace) (kept' out' : List ℕ) : Type 0 where
-  pub answer : Stepped
+pub record Steps (w : World) (h : Handle) (prefix : List ℕ) (n : ℕ) (given : Bool) (before out : List ℕ) (p : Option ℕ) (kept' out' : List ℕ) : Type 0 where
+  pub answer : Result KeyValue Refusal
   pub step : Step w (scans_prefix h prefix given before answer) w
   pub shows : ShowsBy (shown w.log (length out / record_len) n answer) n out p kept' out'

@@ -1,13 +1,14 @@
 -- One record of a tape and its answers. What the store does is a step of its world (mvcc): the definition that the `ensures` of the call
 -- cites, from the world before to the world after. Document 01, 'Tape'. Assumes nothing.
-use Rattle.std.specs.Prelude.{ℕ, ◌+◌, ◌≤◌, ◌≡◌, Bool, true, false, not, List, [], ◌∷◌, ◌++◌, length, eqb}
+use Rattle.bitcask.specs.declared.request.Used.{Used}
+use Rattle.keycode.specs.declared.refusal.Refusal.{Refusal}
+use Rattle.keycode.specs.declared.parts.Part.{Part}
+use Rattle.bitcask.specs.declared.answers.KeyValue.{KeyValue}
+use Rattle.bitcask.specs.declared.report.Counts.{Counts}
+use Rattle.std.specs.Prelude.{ℕ, ◌+◌, ◌≤◌, ◌≡◌, Bool, true, false, not, List, [], ◌∷◌, ◌++◌, length, eqb, Result}
 use Rattle.keycode.specs.Tests.{pick}
 use Rattle.keycode.specs.Limits.{max_open}
-use Rattle.bitcask.specs.declared.request.Changed.{Changed}
 use Rattle.bitcask.specs.recovery.Promises.{changed_number}
-use Rattle.bitcask.specs.declared.answers.Located.{Located}
-use Rattle.bitcask.specs.declared.answers.Stepped.{Stepped}
-use Rattle.bitcask.specs.declared.report.Counted.{Counted}
 use Rattle.bitcask.specs.compaction.Promises.{Compacts}
 use Rattle.mvcc.specs.declared.handle.Handle.{Handle}
 use Rattle.mvcc.specs.declared.begun.Begun.{Begun}
@@ -25,13 +26,13 @@ unfoldable pub start_call : ℕ → ℕ → Begun → Call
 start_call c v a = pick (eqb c 1) (begins a) (pick (eqb c 2) (begins_reading a) (begins_as_of v a))
 
 -- the used length after it: only the first changes it
-unfoldable pub start_used : ℕ → Changed → ℕ → ℕ
+unfoldable pub start_used : ℕ → Result Used Refusal → ℕ → ℕ
 start_used c a used = pick (eqb c 1) (used_by a used) used
 
-unfoldable pub write_call : ℕ → Handle → List ℕ → List ℕ → Changed → Call
+unfoldable pub write_call : ℕ → Handle → List ℕ → List ℕ → Result Used Refusal → Call
 write_call c h key value a = pick (eqb c 5) (sets h key value a) (deletes h key a)
 
-unfoldable pub end_call : ℕ → Handle → Changed → Call
+unfoldable pub end_call : ℕ → Handle → Result Used Refusal → Call
 end_call c h a = pick (eqb c 8) (commits h a) (rolls_back h a)
 
 -- ---- each command: the world and the slots after it, and its answers
@@ -41,27 +42,27 @@ pub data Started (w : World) (slots : List ℕ) (q : Request) : World → List �
       → Started w slots q w' (filled_with slots q.slot a.answer a.handle) (given_bytes q.command a.answer a.handle.version)
 
 pub data Looked (w : World) (h : Handle) (key : List ℕ) : List ℕ → Type 0 where
-  looked : (a : Located) → Step w (gets h key a) w → Looked w h key (got_bytes w.log a)
+  looked : (a : Result Part Refusal) → Step w (gets h key a) w → Looked w h key (got_bytes w.log a)
 
 pub data Written (w : World) (h : Handle) (c : ℕ) (key value : List ℕ) : World → List ℕ → Type 0 where
-  written : (a : Changed) {w' : World} → Step w (write_call c h key value a) w' → Written w h c key value w' (plainly (changed_number a) c)
+  written : (a : Result Used Refusal) {w' : World} → Step w (write_call c h key value a) w' → Written w h c key value w' (plainly (changed_number a) c)
 
 -- a scan that has shown n pairs, behind the last key where one is given
 pub data Scanned (w : World) (h : Handle) (prefix : List ℕ) (room : ℕ) : Bool → List ℕ → ℕ → List ℕ → Type 0 where
-  ends : {given : Bool} {before : List ℕ} {n : ℕ} (s : Stepped) {x : List ℕ} → Step w (scans_prefix h prefix given before s) w → shown w.log room n s ≡ last x
+  ends : {given : Bool} {before : List ℕ} {n : ℕ} (s : Result KeyValue Refusal) {x : List ℕ} → Step w (scans_prefix h prefix given before s) w → shown w.log room n s ≡ last x
       → Scanned w h prefix room given before n x
-  goes : {given : Bool} {before : List ℕ} {n : ℕ} (s : Stepped) {key value x : List ℕ} → Step w (scans_prefix h prefix given before s) w → shown w.log room n s ≡ pair key value
+  goes : {given : Bool} {before : List ℕ} {n : ℕ} (s : Result KeyValue Refusal) {key value x : List ℕ} → Step w (scans_prefix h prefix given before s) w → shown w.log room n s ≡ pair key value
       → Scanned w h prefix room true key (n + 1) x → Scanned w h prefix room given before n (laid 0 7 0 key value ++ x)
 
 pub data Ended (w : World) (h : Handle) (slots : List ℕ) (q : Request) : World → List ℕ → List ℕ → Type 0 where
-  ended : (a : Changed) {w' : World} → Step w (end_call q.command h a) w' → Ended w h slots q w' (emptied_by slots q.slot a) (plainly (changed_number a) q.command)
+  ended : (a : Result Used Refusal) {w' : World} → Step w (end_call q.command h a) w' → Ended w h slots q w' (emptied_by slots q.slot a) (plainly (changed_number a) q.command)
 
 -- a compaction from the log into the buffer beside it: done, that buffer is the log
 pub data Tidied (log : List ℕ) (used : ℕ) (t spare : List ℕ) : ℕ → Bool → List ℕ → List ℕ → List ℕ → Type 0 where
-  tidied : (a : Changed) {t' spare' : List ℕ} → Compacts log used t spare a t' spare' → Tidied log used t spare (used_by a used) (is_done a) t' spare' (used_bytes a)
+  tidied : (a : Result Used Refusal) {t' spare' : List ℕ} → Compacts log used t spare a t' spare' → Tidied log used t spare (used_by a used) (is_done a) t' spare' (used_bytes a)
 
 pub data Told (w : World) : List ℕ → Type 0 where
-  told : (a : Counted) → Step w (counts a) w → Told w (count_bytes a)
+  told : (a : Result Counts Refusal) → Step w (counts a) w → Told w (count_bytes a)
 
 -- ---- the commands that are made with the handle of a slot
 

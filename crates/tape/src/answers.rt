@@ -10,8 +10,8 @@ ghost use Rattle.tape.specs.Answers.{given_bytes, filled_with, value_bytes, got_
 
 use crate::format::layout::{VALUE_ROOM, put_plain, put_record};
 use crate::format::slots::{empty, fill};
-use bitcask::{Changed, Counted, Located, part};
-use keycode::{Refusal, number_of};
+use bitcask::{Counts, Used, part};
+use keycode::{Part, Refusal, number_of};
 use mvcc::Handle;
 
 // Done, with a number.
@@ -34,24 +34,29 @@ pub(crate) fn put_refusal(out: &mut [u8], at: usize, r: Refusal, command: u8)
 }
 
 // The answer of a begin.
-pub(crate) fn answer_given(out: &mut [u8], command: u8, answer: Changed, version: u64)
+pub(crate) fn answer_given(out: &mut [u8], command: u8, answer: Result<Used, Refusal>, version: u64)
     requires { record_len ≤ length out.old }
     ensures { out.new ≡ put out.old 0 (given_bytes command answer version) }
 {
     match answer {
-        Changed::Done(_) => put_word(out, 0, command, version),
-        Changed::Refused(r) => put_refusal(out, 0, r, command),
+        Ok(_) => put_word(out, 0, command, version),
+        Err(r) => put_refusal(out, 0, r, command),
     }
 }
 
 // A handle that a call gives has an array of sixteen, so that its slot gives it back whole.
-pub(crate) fn fill_given(slots: &mut [u64], slot: usize, answer: Changed, handle: Handle)
+pub(crate) fn fill_given(
+    slots: &mut [u64],
+    slot: usize,
+    answer: Result<Used, Refusal>,
+    handle: Handle,
+)
     requires { (length slots.old ≡ all_words) × (slot < 16) }
     ensures { (slots.new ≡ filled_with slots.old slot answer handle) × (length handle.set ≡ max_open) }
 {
     match answer {
-        Changed::Done(_) => fill(slots, slot, handle),
-        Changed::Refused(_) => {}
+        Ok(_) => fill(slots, slot, handle),
+        Err(_) => {}
     }
 }
 
@@ -69,55 +74,55 @@ fn answer_value(out: &mut [u8], value: &[u8])
 }
 
 // The answer of a get.
-pub(crate) fn answer_got(out: &mut [u8], log: &[u8], answer: Located)
+pub(crate) fn answer_got(out: &mut [u8], log: &[u8], answer: Result<Part, Refusal>)
     requires { record_len ≤ length out.old }
     ensures { out.new ≡ put out.old 0 (got_bytes log.now answer) }
 {
     match answer {
-        Located::At(p) => answer_value(out, part(log, p)),
-        Located::Refused(r) => put_refusal(out, 0, r, 4),
+        Ok(p) => answer_value(out, part(log, p)),
+        Err(r) => put_refusal(out, 0, r, 4),
     }
 }
 
 // The answer of a write or an end: its number alone.
-pub(crate) fn answer_changed(out: &mut [u8], command: u8, answer: Changed)
+pub(crate) fn answer_changed(out: &mut [u8], command: u8, answer: Result<Used, Refusal>)
     requires { record_len ≤ length out.old }
     ensures { out.new ≡ put out.old 0 (plainly (changed_number answer) command) }
 {
     match answer {
-        Changed::Done(_) => put_plain(out, 0, 0, command),
-        Changed::Refused(r) => put_refusal(out, 0, r, command),
+        Ok(_) => put_plain(out, 0, 0, command),
+        Err(r) => put_refusal(out, 0, r, command),
     }
 }
 
-pub(crate) fn empty_ended(slots: &mut [u64], slot: usize, answer: Changed)
+pub(crate) fn empty_ended(slots: &mut [u64], slot: usize, answer: Result<Used, Refusal>)
     requires { (length slots.old ≡ all_words) × (slot < 16) }
     ensures { slots.new ≡ emptied_by slots.old slot answer }
 {
     match answer {
-        Changed::Done(_) => empty(slots, slot),
-        Changed::Refused(_) => {}
+        Ok(_) => empty(slots, slot),
+        Err(_) => {}
     }
 }
 
 // The answer of a compaction.
-pub(crate) fn answer_used(out: &mut [u8], answer: Changed)
+pub(crate) fn answer_used(out: &mut [u8], answer: Result<Used, Refusal>)
     requires { record_len ≤ length out.old }
     ensures { out.new ≡ put out.old 0 (used_bytes answer) }
 {
     match answer {
-        Changed::Done(u) => put_word(out, 0, 10, u.len as u64),
-        Changed::Refused(r) => put_refusal(out, 0, r, 10),
+        Ok(u) => put_word(out, 0, 10, u.len as u64),
+        Err(r) => put_refusal(out, 0, r, 10),
     }
 }
 
 // The answer of a status.
-pub(crate) fn answer_counted(out: &mut [u8], answer: Counted)
+pub(crate) fn answer_counted(out: &mut [u8], answer: Result<Counts, Refusal>)
     requires { record_len ≤ length out.old }
     ensures { out.new ≡ put out.old 0 (count_bytes answer) }
 {
     match answer {
-        Counted::Done(s) => put_word(out, 0, 11, s.keys as u64),
-        Counted::Refused(r) => put_refusal(out, 0, r, 11),
+        Ok(s) => put_word(out, 0, 11, s.keys as u64),
+        Err(r) => put_refusal(out, 0, r, 11),
     }
 }

@@ -12,7 +12,8 @@ use crate::answers::{
 use crate::format::Request;
 use crate::format::layout::RECORD;
 use crate::state::{Turn, is_done, used_after};
-use bitcask::{Changed, Used, compact, status};
+use bitcask::{Used, compact, status};
+use keycode::Refusal;
 use mvcc::{
     Begun, Handle, begin, begin_as_of, begin_read_only, commit, delete, get, rollback, set,
 };
@@ -31,7 +32,7 @@ fn begun(log: &mut [u8], used: Used, table: &mut [u32], command: u8, version: u6
 }
 
 // The used length after it: only a begin that writes changes it.
-fn started_used(command: u8, answer: Changed, used: Used) -> Used
+fn started_used(command: u8, answer: Result<Used, Refusal>, used: Used) -> Used
     ensures { result.len ≡ start_used command answer used.len }
 {
     if command == 1 {
@@ -83,7 +84,7 @@ fn changed(
     command: u8,
     key: &[u8],
     value: &[u8],
-) -> Changed
+) -> Result<Used, Refusal>
     ensures { Step (world_of log.old used.len table.old) (write_call command handle key.now value.now result) (world_of log.new (used_by result used.len) table.new) }
 {
     if command == 5 {
@@ -111,7 +112,13 @@ pub(crate) fn write(
 }
 
 // The call of commands 8 and 9.
-fn ended(log: &mut [u8], used: Used, table: &mut [u32], handle: Handle, command: u8) -> Changed
+fn ended(
+    log: &mut [u8],
+    used: Used,
+    table: &mut [u32],
+    handle: Handle,
+    command: u8,
+) -> Result<Used, Refusal>
     ensures { Step (world_of log.old used.len table.old) (end_call command handle result) (world_of log.new (used_by result used.len) table.new) }
 {
     if command == 8 {

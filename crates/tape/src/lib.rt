@@ -9,5 +9,5 @@ mod scan;
 mod state;
 mod turn;
 
-pub use state::{Taken, Turn};
+pub use state::Turn;
 pub use turn::take;

@@ -1,9 +1,8 @@
 // A prefix scan to its end: a record a pair, then the count, or a refusal in its place. The last key that was shown is kept unescaped, as
 // the next step wants it and the pair's record has it.
-ghost use Rattle.std.specs.Prelude.{◌≡◌, false, [], ◌+◌, ◌*◌, ◌/◌, ◌≤◌, ◌<◌, leb, ltb, length, take};
+ghost use Rattle.std.specs.Prelude.{◌≡◌, false, [], ◌+◌, ◌*◌, ◌/◌, ◌≤◌, ◌<◌, leb, ltb, length, take, Ok};
 ghost use Rattle.keycode.specs.Buffer.{put};
 ghost use Rattle.keycode.specs.Refusals.{number_of};
-ghost use Rattle.bitcask.specs.declared.answers.Stepped.TheVariants.{Next};
 ghost use Rattle.tape.specs.format.Layout.{record_len, key_room, value_room};
 ghost use Rattle.tape.specs.Answers.{pair_if, end_bytes, shown};
 ghost use Rattle.tape.specs.Turns.{world_of, Scanned};
@@ -12,34 +11,27 @@ ghost use Rattle.tape.specs.Promises.{Lays};
 
 use crate::answers::{put_refusal, put_word};
 use crate::format::layout::{KEY_ROOM, RECORD, VALUE_ROOM, put_plain, put_record};
-use bitcask::{Stepped, Used, part};
-use keycode::{Length, Part, Refusal, number_of, unescape};
+use bitcask::{KeyValue, Used, part};
+use keycode::{Part, Refusal, number_of, unescape};
 use mvcc::{Handle, scan_prefix_step};
-
-// Whether a pair was shown, with the length of its key, or the scan is over.
-#[derive(Clone, Copy)]
-pub enum Pace {
-    Pair(usize),
-    Over,
-}
 
 // The pair of a key, the first bytes of those that are kept, and a value: 13 in its place where an answer has no room for the value, or
 // the lent buffer none for a record behind this one.
-fn show_pair(out: &mut [u8], n: usize, kept: &[u8], klen: usize, value: &[u8]) -> Pace
+fn show_pair(out: &mut [u8], n: usize, kept: &[u8], klen: usize, value: &[u8]) -> Option<usize>
     requires { (record_len * n + record_len ≤ length out.old) × (klen ≤ length kept.now) × (klen ≤ key_room) }
     ensures { ShowsBy (pair_if (leb (length value.now) value_room) (ltb (n + 1) (length out.old / record_len)) (take klen kept.now) value.now) n out.old result kept.now out.new }
 {
     let at = RECORD * n;
     if VALUE_ROOM < value.len() {
         put_plain(out, at, 13, 7);
-        return Pace::Over;
+        return None;
     }
     if out.len() / RECORD <= n + 1 {
         put_plain(out, at, 13, 7);
-        return Pace::Over;
+        return None;
     }
     put_record(out, at, 0, 7, 0, &kept[..klen], value);
-    Pace::Pair(klen)
+    Some(klen)
 }
 
 // The record behind the last pair.
@@ -57,15 +49,22 @@ fn show_end(out: &mut [u8], n: usize, r: Refusal)
 }
 
 // A key and a value of the log.
-fn show_next(log: &[u8], key: Part, value: Part, kept: &mut [u8], out: &mut [u8], n: usize) -> Pace
+fn show_next(
+    log: &[u8],
+    key: Part,
+    value: Part,
+    kept: &mut [u8],
+    out: &mut [u8],
+    n: usize,
+) -> Option<usize>
     requires { (record_len * n + record_len ≤ length out.old) × (length kept.old ≡ key_room) }
-    ensures { ShowsBy (shown log.now (length out.old / record_len) n (Next key value)) n out.old result kept.new out.new }
+    ensures { ShowsBy (shown log.now (length out.old / record_len) n (Ok (record { key = key; value = value }))) n out.old result kept.new out.new }
 {
     match unescape(part(log, key), kept) {
-        Length::Done(k) => show_pair(out, n, kept, k, part(log, value)),
-        Length::Refused(r) => {
+        Ok(k) => show_pair(out, n, kept, k, part(log, value)),
+        Err(r) => {
             put_refusal(out, RECORD * n, r, 7);
-            Pace::Over
+            None
         }
     }
 }
@@ -81,16 +80,16 @@ fn show_step(
     klen: usize,
     out: &mut [u8],
     n: usize,
-) -> Pace
+) -> Option<usize>
     requires { (record_len * n + record_len ≤ length out.old) × (length kept.old ≡ key_room) × (klen ≤ key_room) }
     ensures { Steps (world_of log.now used.len table.now) handle prefix.now n (ltb 0 n) (take klen kept.old) out.old result kept.new out.new }
 {
     let given = 0 < n;
     match scan_prefix_step(log, used, table, handle, prefix, given, &kept[..klen]) {
-        Stepped::Next { key, value } => show_next(log, key, value, kept, out, n),
-        Stepped::Refused(r) => {
+        Ok(KeyValue { key, value }) => show_next(log, key, value, kept, out, n),
+        Err(r) => {
             show_end(out, n, r);
-            Pace::Over
+            None
         }
     }
 }
@@ -111,11 +110,11 @@ fn show_all(
     let mut n = 0;
     loop {
         match show_step(log, used, table, handle, prefix, kept, klen, out, n) {
-            Pace::Pair(k) => {
+            Some(k) => {
                 klen = k;
                 n += 1;
             }
-            Pace::Over => {
+            None => {
                 return RECORD * (n + 1);
             }
         }

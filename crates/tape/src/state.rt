@@ -4,7 +4,7 @@ ghost use Rattle.mvcc.specs.world.Steps.{used_by, is_done};
 ghost use Rattle.tape.specs.format.Layout.{record_len};
 
 use crate::format::layout::RECORD;
-use bitcask::{Changed, Used};
+use bitcask::Used;
 use keycode::Refusal;
 
 // The used length, whether the second of the two lent buffers is the log, and how many bytes of answers were laid.
@@ -13,12 +13,6 @@ pub struct Turn {
     pub used: Used,
     pub other: bool,
     pub len: usize,
-}
-
-#[derive(Clone, Copy)]
-pub enum Taken {
-    Done(Turn),
-    Refused(Refusal),
 }
 
 // One record of answers, and the log where it was.
@@ -33,20 +27,20 @@ pub(crate) fn one_answer(used: Used) -> Turn
 }
 
 // The used length that an answer leaves.
-pub(crate) fn used_after(answer: Changed, used: Used) -> Used
+pub(crate) fn used_after(answer: Result<Used, Refusal>, used: Used) -> Used
     ensures { result.len ≡ used_by answer used.len }
 {
     match answer {
-        Changed::Done(u) => u,
-        Changed::Refused(_) => used,
+        Ok(u) => u,
+        Err(_) => used,
     }
 }
 
-pub(crate) fn is_done(answer: Changed) -> bool
+pub(crate) fn is_done(answer: Result<Used, Refusal>) -> bool
     ensures { result ≡ is_done answer }
 {
     match answer {
-        Changed::Done(_) => true,
-        Changed::Refused(_) => false,
+        Ok(_) => true,
+        Err(_) => false,
     }
 }

@@ -11,7 +11,7 @@ use crate::format::layout::{KEY_AT, RECORD, VALUE_AT, put_plain};
 use crate::format::request::{fields, proper};
 use crate::format::slots::{ALL_WORDS, filled, handle_at};
 use crate::scan::scan;
-use crate::state::{Taken, Turn, one_answer};
+use crate::state::{Turn, one_answer};
 use bitcask::Used;
 use keycode::Refusal;
 use keycode::parts::clip;
@@ -141,24 +141,24 @@ pub fn take(
     other: bool,
     bytes: &[u8],
     out: &mut [u8],
-) -> Taken
+) -> Result<Turn, Refusal>
     ensures { Takes (record { first = first.old; second = second.old; table = table.old; slots = slots.old; out = out.old }) used.len other bytes.now result (record { first = first.new; second = second.new; table = table.new; slots = slots.new; out = out.new }) }
 {
     if out.len() < RECORD {
-        return Taken::Refused(Refusal::BadRequest);
+        return Err(Refusal::BadRequest);
     }
     if slots.len() != ALL_WORDS {
-        return Taken::Refused(Refusal::BadRequest);
+        return Err(Refusal::BadRequest);
     }
     if other {
         let t = turn(second, used, first, table, slots, bytes, out);
         let u = t.used;
-        return Taken::Done(Turn {
+        return Ok(Turn {
             used: u,
             other: !t.other,
             len: t.len,
         });
     }
     let t = turn(first, used, second, table, slots, bytes, out);
-    Taken::Done(t)
+    Ok(t)
 }

@@ -8,7 +8,7 @@ mod start;
 mod writes;
 
 use crate::keys::Keys;
-use bitcask::{Changed, Used};
+use bitcask::Used;
 use mvcc::Handle;
 
 // What is asked: the call, how often, on which keys, and how many transactions are open before it.
@@ -80,7 +80,7 @@ pub extern "C" fn tjaldrum_timing(
         keys,
     };
     match bitcask::open(log, Used { len }, table) {
-        Changed::Done(used) => run(r, log, used, table, target),
-        Changed::Refused(_) => 0,
+        Ok(used) => run(r, log, used, table, target),
+        Err(_) => 0,
     }
 }

@@ -1,14 +1,14 @@
 // The calls that look, and what they add to the sum.
 use crate::keys::{KEY_BYTES, Keys, next, plus, spell};
-use bitcask::{Changed, Used};
-use keycode::Part;
+use bitcask::Used;
 use keycode::parts::clip;
-use mvcc::{Bound, Handle, Located, Stepped};
+use keycode::{Part, Refusal};
+use mvcc::{Bound, Handle, KeyValue};
 
-pub(crate) fn used_of(answer: Changed) -> u64 {
+pub(crate) fn used_of(answer: Result<Used, Refusal>) -> u64 {
     match answer {
-        Changed::Done(u) => u.len as u64,
-        Changed::Refused(_) => 0,
+        Ok(u) => u.len as u64,
+        Err(_) => 0,
     }
 }
 
@@ -38,8 +38,8 @@ fn weight(value: &[u8]) -> u64 {
 fn get(log: &[u8], used: Used, table: &[u32], h: Handle, keys: Keys, n: u64) -> u64 {
     let code = spell(n, keys.absent);
     match mvcc::get(log, used, table, h, clip(&code, keys.skip, KEY_BYTES)) {
-        Located::At(p) => weight(clip(log, p.at, p.len)),
-        Located::Refused(_) => 0,
+        Ok(p) => weight(clip(log, p.at, p.len)),
+        Err(_) => 0,
     }
 }
 
@@ -62,7 +62,14 @@ pub(crate) fn gets(
     sum
 }
 
-fn step(log: &[u8], used: Used, table: &[u32], h: Handle, given: bool, last: Part) -> Stepped {
+fn step(
+    log: &[u8],
+    used: Used,
+    table: &[u32],
+    h: Handle,
+    given: bool,
+    last: Part,
+) -> Result<KeyValue, Refusal> {
     mvcc::scan_step(
         log,
         used,
@@ -85,12 +92,12 @@ fn scan(log: &[u8], used: Used, table: &[u32], h: Handle) -> u64 {
     let mut i: usize = 0;
     while i < log.len() {
         match step(log, used, table, h, given, last) {
-            Stepped::Next { key: k, value: v } => {
+            Ok(KeyValue { key: k, value: v }) => {
                 sum = plus(sum, weight(clip(log, v.at, v.len)));
                 last = k;
                 given = true;
             }
-            Stepped::Refused(_) => return sum,
+            Err(_) => return sum,
         }
         i += 1;
     }

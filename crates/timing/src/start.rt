@@ -1,5 +1,6 @@
 // The transaction by which calls are made: one that begins after others that stay open.
-use bitcask::{Changed, Used};
+use bitcask::Used;
+use keycode::Refusal;
 use mvcc::Handle;
 
 #[derive(Clone, Copy)]
@@ -9,10 +10,10 @@ pub struct Begun {
 }
 
 // The used length after a call; where it was refused, the one before.
-pub(crate) fn kept(answer: Changed, used: Used) -> Used {
+pub(crate) fn kept(answer: Result<Used, Refusal>, used: Used) -> Used {
     match answer {
-        Changed::Done(u) => u,
-        Changed::Refused(_) => used,
+        Ok(u) => u,
+        Err(_) => used,
     }
 }
 

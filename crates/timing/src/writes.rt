@@ -2,7 +2,7 @@
 use crate::keys::{KEY_BYTES, Keys, next, plus, spell};
 use crate::reads::used_of;
 use crate::start::{begin_after, kept};
-use bitcask::{Changed, Used, compact};
+use bitcask::{Used, compact};
 use keycode::parts::clip;
 use mvcc::Handle;
 

@@ -2,21 +2,23 @@
 use Prim.Native.Nat.{ℕ, zero, suc, ◌+◌}
 use mathlib.Core.Path.{◌≡◌, refl, sym, ap, ◌∙◌, subst}
 use mathlib.Core.List.{List}
+use Rattle.std.specs.Prelude.{Result}
+use Rattle.bitcask.specs.declared.request.Used.{Used}
+use Rattle.keycode.specs.declared.refusal.Refusal.{Refusal}
 use Rattle.keycode.specs.Tests.{if_done}
 use Rattle.keycode.specs.Buffer.{put}
 use Rattle.bitcask.specs.entry.Entry.{Entry, bytes_of, size_of}
-use Rattle.bitcask.specs.declared.request.Changed.{Changed}
 use Rattle.bitcask.specs.recovery.Agree.{Agrees}
 use Rattle.bitcask.specs.recovery.Promises.{changed_number}
 use Rattle.bitcask.proofs.recovery.AgreeLaws.{agrees_unique}
 use Rattle.bitcask.specs.change.Promises.{Changes}
 
-module _ {log : List ℕ} {used : ℕ} {t : List ℕ} {e : Entry} {r r' : Changed} {l l' x x' : List ℕ} (g : Agrees log used t) (w : Changes log used t e r l x) (w' : Changes log used t e r' l' x') where
+module _ {log : List ℕ} {used : ℕ} {t : List ℕ} {e : Entry} {r r' : Result Used Refusal} {l l' x x' : List ℕ} (g : Agrees log used t) (w : Changes log used t e r l x) (w' : Changes log used t e r' l' x') where
   pub changes_answer : r ≡ r'
   changes_answer = w.answer g ∙ sym (w'.answer g)
 
   pub changes_log : l ≡ l'
-  changes_log = w.bytes ∙ ap (λ (y : Changed). if_done (changed_number y) (put log used (bytes_of e)) log) changes_answer ∙ sym w'.bytes
+  changes_log = w.bytes ∙ ap (λ (y : Result Used Refusal). if_done (changed_number y) (put log used (bytes_of e)) log) changes_answer ∙ sym w'.bytes
 
   pub changes_table : x ≡ x'
   changes_table = go (changed_number r) refl

@@ -3,12 +3,12 @@
 use Prim.Native.Nat.{ℕ, suc}
 use mathlib.Core.Path.{◌≡◌, refl, sym, ap, ◌∙◌, subst}
 use mathlib.Core.Logic.{◌⊎◌, inl, inr}
-use mathlib.Core.Option.{Option, none, some}
+use Rattle.std.specs.Prelude.{Option, None, Some}
 use mathlib.Core.List.{List, [], ◌∷◌}
 use lib.ListN.{length}
+use Rattle.std.specs.declared.cmp.Ordering.{Ordering}
+use Rattle.std.specs.declared.cmp.Ordering.TheVariants.{Less, Equal, Greater}
 use Rattle.keycode.specs.Order.{compare_bytes}
-use Rattle.keycode.specs.declared.order.Order.{Order}
-use Rattle.keycode.specs.declared.order.Order.TheVariants.{Less, Equal, Greater}
 use Rattle.keycode.proofs.Basics.{nope}
 use Rattle.keycode.proofs.OrderLaws.{flip, compare_flip, compare_equal, compare_refl}
 use Rattle.bitcask.specs.declared.keydir.slots.Slot.{Slot}
@@ -88,22 +88,22 @@ module _ (log : List ℕ) where
 
   -- ---- the slot of a key
 
-  for_on : (k : List ℕ) (x s : Slot) (ss : List Slot) (o : Order) → compare_bytes (key_of log x) k ≡ o → slot_for log k (x ∷ ss) ≡ some s
-      → (slot_for log k ss ≡ some s → Mem s ss × (key_of log s ≡ k)) → Mem s (x ∷ ss) × (key_of log s ≡ k)
+  for_on : (k : List ℕ) (x s : Slot) (ss : List Slot) (o : Ordering) → compare_bytes (key_of log x) k ≡ o → slot_for log k (x ∷ ss) ≡ Some s
+      → (slot_for log k ss ≡ Some s → Mem s ss × (key_of log s ≡ k)) → Mem s (x ∷ ss) × (key_of log s ≡ k)
   unfolding slot_for
-  for_on k x s ss Less e q f = let w : slot_for log k ss ≡ some s = rw e at q in (mem_there (f w).0, (f w).1)
+  for_on k x s ss Less e q f = let w : slot_for log k ss ≡ Some s = rw e at q in (mem_there (f w).0, (f w).1)
   for_on k x s ss Equal e q f =
-      let w : some x ≡ some s = rw e at q in
+      let w : Some x ≡ Some s = rw e at q in
       let z : x ≡ s = cc in
       (subst (λ (y : Slot). Mem s (y ∷ ss)) (sym z) mem_here, subst (λ (y : Slot). key_of log y ≡ k) z (compare_equal (key_of log x) k e))
-  for_on k x s ss Greater e q f = let w : ◌≡◌ {A = Option Slot} none (some s) = rw e at q in nope (cc)
+  for_on k x s ss Greater e q f = let w : ◌≡◌ {A = Option Slot} None (Some s) = rw e at q in nope (cc)
 
-  pub for_mem : (k : List ℕ) (s : Slot) (ss : List Slot) → slot_for log k ss ≡ some s → Mem s ss × (key_of log s ≡ k)
+  pub for_mem : (k : List ℕ) (s : Slot) (ss : List Slot) → slot_for log k ss ≡ Some s → Mem s ss × (key_of log s ≡ k)
   unfolding slot_for
   for_mem k s [] q = nope (cc)
   for_mem k s (x ∷ ss) q = for_on k x s ss (compare_bytes (key_of log x) k) refl q (λ w. for_mem k s ss w)
 
-  pub mem_for : {s : Slot} {ss : List Slot} → Sorted log ss → Mem s ss → slot_for log (key_of log s) ss ≡ some s
+  pub mem_for : {s : Slot} {ss : List Slot} → Sorted log ss → Mem s ss → slot_for log (key_of log s) ss ≡ Some s
   unfolding slot_for
   mem_for {s = s} sorted_none x3 = elim x3 [ ]
   mem_for {s} (sorted_more a r) mem_here = rw (compare_refl (key_of log s))

@@ -2,34 +2,28 @@
 use Prim.Native.Nat.{ℕ, suc, ◌+◌, ◌-◌, ◌≤◌, ◌<◌}
 use mathlib.Core.Path.{◌≡◌, refl, sym, ap, ◌∙◌}
 use mathlib.Core.Bool.{Bool, true, false}
-use mathlib.Core.Option.{Option, none, some}
 use mathlib.Core.List.{List, [], ◌∷◌}
 use native.Mathlib.Numerals.{add-one}
 use native.Mathlib.Omega.{arith}
 use lib.ListN.{length, drop, get_or, drop_of_length-le}
 use lib.Seq.{drop-cons}
 use borrow.Author.Tests.{eq-eqb, ne_eqb, lt-ltb, le-ltb}
+use Rattle.std.specs.Prelude.{Result, ℕ, Ok, Err, Option, Some, None}
+use Rattle.std.specs.declared.cmp.Ordering.{Ordering}
 use Rattle.keycode.specs.Order.{compare_bytes}
-use Rattle.keycode.specs.declared.order.Order.{Order}
 use Rattle.keycode.proofs.Basics.{nope}
 use Rattle.bitcask.specs.declared.entry.read.Read.{Read}
 use Rattle.bitcask.specs.declared.entry.read.Read.TheVariants.{Set, Del, Stop}
 use Rattle.bitcask.specs.entry.Reading.{entry_at}
 use Rattle.bitcask.specs.declared.keydir.slots.Slot.{Slot}
-use Rattle.bitcask.specs.declared.keydir.place.Found.{Found}
-use Rattle.bitcask.specs.declared.keydir.place.Found.TheVariants.{At, Before}
 use Rattle.bitcask.specs.keydir.Slots.{free_slot, slot_at, slots_of, key_of}
 use Rattle.bitcask.specs.keydir.Place.{place_of}
 use Rattle.bitcask.proofs.keydir.SlotLaws.{slot_at_is}
 use Rattle.bitcask.specs.recovery.Recover.{Item, item_of, next, items}
 use Rattle.bitcask.proofs.recovery.ItemLaws.{Stands, item_stands, items-stop, items-next}
 use Rattle.bitcask.specs.declared.check.Seen.{Seen}
-use Rattle.bitcask.specs.declared.check.Ahead.{Ahead}
-use Rattle.bitcask.specs.declared.check.Ahead.TheVariants.{Entry, Over}
 use Rattle.bitcask.specs.declared.check.Judged.{Judged}
 use Rattle.bitcask.specs.declared.check.Judged.TheVariants.{Wrong, Early, Exact}
-use Rattle.bitcask.specs.declared.check.Walked.{Walked}
-use Rattle.bitcask.specs.declared.check.Walked.TheVariants.{Broken, Met}
 use Rattle.bitcask.specs.check.Told.{zeroed, is_less, is_equal, risen, ahead_of, item_seen, later_in, against, judged_in, one_more, counted, walked_in}
 use Rattle.bitcask.proofs.read.RankLaws.{found_at}
 
@@ -51,7 +45,7 @@ module _ (t : List ℕ) (i : ℕ) where
 
 -- ---- keys that rise
 
-pub pair_is : (log t : List ℕ) (n i : ℕ) {s x : Slot} {a b : List ℕ} {o : Order} → i + 1 < n → s ≡ slot_at t i → x ≡ slot_at t (i + 1) → a ≡ key_of log s → b ≡ key_of log x
+pub pair_is : (log t : List ℕ) (n i : ℕ) {s x : Slot} {a b : List ℕ} {o : Ordering} → i + 1 < n → s ≡ slot_at t i → x ≡ slot_at t (i + 1) → a ≡ key_of log s → b ≡ key_of log x
     → o ≡ compare_bytes a b
     → is_less o ≡ is_less (compare_bytes (key_of log (get_or (slots_of n t) i free_slot)) (key_of log (get_or (slots_of n t) (i + 1) free_slot)))
 pair_is log t n i h e f p r q = rw (q, p, r, e, f, slot_at_is n t i (omega arith), slot_at_is n t (i + 1) h)
@@ -83,13 +77,13 @@ module _ (log : List ℕ) (ss : List Slot) (i : ℕ) where
 -- ---- the entry at an offset
 
 module _ (log : List ℕ) (used at : ℕ) {r : Read} (e : r ≡ entry_at log used at) where
-  pub ahead_set : (k v : ℕ) → r ≡ Set k v → Entry (record { slot = record { place = at + 1; klen = k; vlen = v }; gone = false }) ≡ ahead_of (item_of (entry_at log used at) at)
+  pub ahead_set : (k v : ℕ) → r ≡ Set k v → Some (record { slot = record { place = at + 1; klen = k; vlen = v }; gone = false }) ≡ ahead_of (item_of (entry_at log used at) at)
   ahead_set k v f = rw (← e, f, add-one)
 
-  pub ahead_del : (k : ℕ) → r ≡ Del k → Entry (record { slot = record { place = at + 1; klen = k; vlen = 0 }; gone = true }) ≡ ahead_of (item_of (entry_at log used at) at)
+  pub ahead_del : (k : ℕ) → r ≡ Del k → Some (record { slot = record { place = at + 1; klen = k; vlen = 0 }; gone = true }) ≡ ahead_of (item_of (entry_at log used at) at)
   ahead_del k f = rw (← e, f, add-one)
 
-  pub ahead_stop : r ≡ Stop → Over ≡ ahead_of (item_of (entry_at log used at) at)
+  pub ahead_stop : r ≡ Stop → None ≡ ahead_of (item_of (entry_at log used at) at)
   ahead_stop f = rw (← e, f)
 
   pub set_near : (k v : ℕ) → r ≡ Set k v → at + 8 + k + v ≤ used
@@ -98,29 +92,29 @@ module _ (log : List ℕ) (used at : ℕ) {r : Read} (e : r ≡ entry_at log use
   pub del_near : (k : ℕ) → r ≡ Del k → at + 8 + k ≤ used
   del_near k f = let w = item_stands log used at (record { slot = record { place = at + 1; klen = k; vlen = 0 }; gone = true }) (rw (← e, f)) in let n = w.near in omega arith
 
-seen_is : (o : Option Item) (a : Ahead) (s : Seen) → a ≡ ahead_of o → a ≡ Entry s → o ≡ some (item_seen s)
-seen_is none a s e f = nope (cc)
-seen_is (some i) a s e f =
+seen_is : (o : Option Item) (a : Option Seen) (s : Seen) → a ≡ ahead_of o → a ≡ Some s → o ≡ Some (item_seen s)
+seen_is None a s e f = nope (cc)
+seen_is (Some i) a s e f =
     let z : record { slot = i.slot; gone = i.gone } ≡ s = cc in
-    ap (λ (x : Seen). some (item_seen x)) z
+    ap (λ (x : Seen). Some (item_seen x)) z
 
-none_is : (o : Option Item) (a : Ahead) → a ≡ ahead_of o → a ≡ Over → o ≡ none
-none_is none a e f = refl
-none_is (some i) a e f = nope (cc)
+none_is : (o : Option Item) (a : Option Seen) → a ≡ ahead_of o → a ≡ None → o ≡ None
+none_is None a e f = refl
+none_is (Some i) a e f = nope (cc)
 
 -- what the walks learn at an offset
-module _ (log : List ℕ) (used at : ℕ) {a : Ahead} (e : a ≡ ahead_of (item_of (entry_at log used at) at)) where
-  items-over : a ≡ Over → items log used at ≡ []
+module _ (log : List ℕ) (used at : ℕ) {a : Option Seen} (e : a ≡ ahead_of (item_of (entry_at log used at) at)) where
+  items-over : a ≡ None → items log used at ≡ []
   items-over f = items-stop log used at (none_is (item_of (entry_at log used at) at) a e f)
 
-  module _ (s : Seen) (f : a ≡ Entry s) where
+  module _ (s : Seen) (f : a ≡ Some s) where
     items_on : items log used at ≡ item_seen s ∷ items log used (next (item_seen s))
     items_on = items-next log used at (item_seen s) (seen_is (item_of (entry_at log used at) at) a s e f)
 
     pub seen_stands : Stands used at (item_seen s)
     seen_stands = item_stands log used at (item_seen s) (seen_is (item_of (entry_at log used at) at) a s e f)
 
-pub same-is : (log : List ℕ) (s : Slot) (key : List ℕ) {k : List ℕ} {o : Order} → k ≡ key_of log s → o ≡ compare_bytes k key → is_equal o ≡ is_equal (compare_bytes (key_of log s) key)
+pub same-is : (log : List ℕ) (s : Slot) (key : List ℕ) {k : List ℕ} {o : Ordering} → k ≡ key_of log s → o ≡ compare_bytes k key → is_equal o ≡ is_equal (compare_bytes (key_of log s) key)
 same-is log s key e f = rw (f, e)
 
 -- no entry before an offset has the key
@@ -131,12 +125,12 @@ pub record Looking (log : List ℕ) (used start : ℕ) (key : List ℕ) (at : �
 pub looking_start : (log : List ℕ) (used start : ℕ) (key : List ℕ) → start ≤ used → Looking log used start key start
 looking_start log used start key h = record { within = h; whole = refl }
 
-module _ {log : List ℕ} {used start : ℕ} {key : List ℕ} {at : ℕ} (w : Looking log used start key at) {a : Ahead} (e : a ≡ ahead_of (item_of (entry_at log used at) at)) where
-  pub looking-over : a ≡ Over → false ≡ later_in log key (items log used start)
+module _ {log : List ℕ} {used start : ℕ} {key : List ℕ} {at : ℕ} (w : Looking log used start key at) {a : Option Seen} (e : a ≡ ahead_of (item_of (entry_at log used at) at)) where
+  pub looking-over : a ≡ None → false ≡ later_in log key (items log used start)
   unfolding later_in
   looking-over f = let z : later_in log key (items log used at) ≡ false = rw (items-over log used at e f) in sym z ∙ w.whole
 
-  module _ (s : Seen) (f : a ≡ Entry s) where
+  module _ (s : Seen) (f : a ≡ Some s) where
     pub looking-here : {b : Bool} → b ≡ is_equal (compare_bytes (key_of log s.slot) key) → b ≡ true → true ≡ later_in log key (items log used start)
     unfolding later_in
     looking-here q t = let z : later_in log key (items log used at) ≡ true = rw (items_on log used at e s f, ← q, t) in sym z ∙ w.whole
@@ -186,15 +180,15 @@ module _ (s x : Slot) (g : Bool) where
           unfolding against
           against-exact v = rw (le-ltb x.place s.place h, e, eq-eqb s.place x.place p, eq-eqb s.klen x.klen k, eq-eqb s.vlen x.vlen v)
 
-module _ (log t : List ℕ) (n : ℕ) (s : Seen) (is : List Item) {key : List ℕ} {f : Found} (k : key ≡ key_of log s.slot) (e : f ≡ place_of log key (slots_of n t)) where
+module _ (log t : List ℕ) (n : ℕ) (s : Seen) (is : List Item) {key : List ℕ} {f : Result ℕ ℕ} (k : key ≡ key_of log s.slot) (e : f ≡ place_of log key (slots_of n t)) where
   placed : f ≡ place_of log (key_of log s.slot) (slots_of n t)
   placed = e ∙ ap (λ (x : List ℕ). place_of log x (slots_of n t)) k
 
-  pub judge-at : (j : ℕ) {x : Slot} {r : Judged} → f ≡ At j → x ≡ slot_at t j → r ≡ against x s.slot s.gone → r ≡ judged_in log (slots_of n t) (item_seen s) is
+  pub judge-at : (j : ℕ) {x : Slot} {r : Judged} → f ≡ Ok j → x ≡ slot_at t j → r ≡ against x s.slot s.gone → r ≡ judged_in log (slots_of n t) (item_seen s) is
   unfolding judged_in
   judge-at j a b q = q ∙ rw (← placed, a, b, slot_at_is n t j (found_at log key t n f e j a))
 
-  module _ (j : ℕ) (a : f ≡ Before j) where
+  module _ (j : ℕ) (a : f ≡ Err j) where
     pub judge-gone : s.gone ≡ true → Early ≡ judged_in log (slots_of n t) (item_seen s) is
     unfolding judged_in
     judge-gone g = rw (← placed, a, g)
@@ -210,17 +204,17 @@ module _ (log t : List ℕ) (n : ℕ) (s : Seen) (is : List Item) {key : List �
 
 -- ---- the walk
 
-abbrev more : ℕ → Walked → Walked
-more n Broken = Broken
-more n (Met m) = Met (n + m)
+abbrev more : ℕ → Option ℕ → Option ℕ
+more n None = None
+more n (Some m) = Some (n + m)
 
-more_one : (n : ℕ) (w : Walked) → more n (one_more w) ≡ more (n + 1) w
-more_one n Broken = refl
-more_one n (Met m) = let e : n + suc m ≡ n + 1 + m = omega arith in ap Met e
+more_one : (n : ℕ) (w : Option ℕ) → more n (one_more w) ≡ more (n + 1) w
+more_one n None = refl
+more_one n (Some m) = let e : n + suc m ≡ n + 1 + m = omega arith in ap Some e
 
-more-none : (w : Walked) → more 0 w ≡ w
-more-none Broken = refl
-more-none (Met m) = let e : 0 + m ≡ m = omega arith in ap Met e
+more-none : (w : Option ℕ) → more 0 w ≡ w
+more-none None = refl
+more-none (Some m) = let e : 0 + m ≡ m = omega arith in ap Some e
 
 -- so many are met before an offset; no more than bytes
 pub record Walking (log : List ℕ) (used : ℕ) (ss : List Slot) (at met : ℕ) : Type 0 where
@@ -232,25 +226,25 @@ module _ (log : List ℕ) (used : ℕ) (ss : List Slot) where
   pub walking_start : Walking log used ss 0 0
   walking_start = record { within = omega arith; few = omega arith; whole = more-none (walked_in log used ss 0 (items log used 0)) }
 
-module _ {log : List ℕ} {used : ℕ} {ss : List Slot} {at met : ℕ} (w : Walking log used ss at met) {a : Ahead} (e : a ≡ ahead_of (item_of (entry_at log used at) at)) where
-  pub walking_end : a ≡ Over → at ≡ used → Met met ≡ walked_in log used ss 0 (items log used 0)
+module _ {log : List ℕ} {used : ℕ} {ss : List Slot} {at met : ℕ} (w : Walking log used ss at met) {a : Option Seen} (e : a ≡ ahead_of (item_of (entry_at log used at) at)) where
+  pub walking_end : a ≡ None → at ≡ used → Some met ≡ walked_in log used ss 0 (items log used 0)
   unfolding walked_in
   walking_end f h =
-      let z : more met (walked_in log used ss at (items log used at)) ≡ Met (met + 0) = rw (items-over log used at e f, eq-eqb at used h) in
-      let n : met ≡ met + 0 = omega arith in ap Met n ∙ sym z ∙ w.whole
+      let z : more met (walked_in log used ss at (items log used at)) ≡ Some (met + 0) = rw (items-over log used at e f, eq-eqb at used h) in
+      let n : met ≡ met + 0 = omega arith in ap Some n ∙ sym z ∙ w.whole
 
-  pub walking_cut : a ≡ Over → (at ≡ used → ⊥) → Broken ≡ walked_in log used ss 0 (items log used 0)
+  pub walking_cut : a ≡ None → (at ≡ used → ⊥) → None ≡ walked_in log used ss 0 (items log used 0)
   unfolding walked_in
   walking_cut f h =
-      let z : more met (walked_in log used ss at (items log used at)) ≡ Broken = rw (items-over log used at e f, ne_eqb at used h) in sym z ∙ w.whole
+      let z : more met (walked_in log used ss at (items log used at)) ≡ None = rw (items-over log used at e f, ne_eqb at used h) in sym z ∙ w.whole
 
-  module _ (s : Seen) (f : a ≡ Entry s) {j : Judged} (q : j ≡ judged_in log ss (item_seen s) (items log used (next (item_seen s)))) where
+  module _ (s : Seen) (f : a ≡ Some s) {j : Judged} (q : j ≡ judged_in log ss (item_seen s) (items log used (next (item_seen s)))) where
     on : walked_in log used ss at (items log used at) ≡ counted j (walked_in log used ss (next (item_seen s)) (items log used (next (item_seen s))))
     unfolding walked_in
     on = rw (items_on log used at e s f, ← q)
 
-    pub walking_wrong : j ≡ Wrong → Broken ≡ walked_in log used ss 0 (items log used 0)
-    walking_wrong p = let z : more met (walked_in log used ss at (items log used at)) ≡ Broken = rw (on, p) in sym z ∙ w.whole
+    pub walking_wrong : j ≡ Wrong → None ≡ walked_in log used ss 0 (items log used 0)
+    walking_wrong p = let z : more met (walked_in log used ss at (items log used at)) ≡ None = rw (on, p) in sym z ∙ w.whole
 
     module _ (at' : ℕ) (n : at' ≡ s.slot.place + 7 + s.slot.klen + s.slot.vlen) where
       pub walking_less : used - at' < used - at

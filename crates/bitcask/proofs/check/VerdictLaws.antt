@@ -8,10 +8,11 @@ use lib.Dec.{eqb}
 use lib.ListN.{length, drop, replicate, length-drop}
 use lib.Seq.{drop_at}
 use borrow.Author.Tests.{eq-eqb, eqb-true}
+use Rattle.std.specs.Prelude.{Option, ℕ, None, Some}
+use Rattle.std.specs.declared.cmp.Ordering.{Ordering}
+use Rattle.std.specs.declared.cmp.Ordering.TheVariants.{Less, Equal, Greater}
 use Rattle.keycode.specs.Tests.{pick}
 use Rattle.keycode.specs.Order.{compare_bytes}
-use Rattle.keycode.specs.declared.order.Order.{Order}
-use Rattle.keycode.specs.declared.order.Order.TheVariants.{Less, Equal, Greater}
 use Rattle.keycode.proofs.Basics.{nope}
 use Rattle.keycode.proofs.OrderLaws.{compare_trans}
 use Rattle.bitcask.specs.declared.keydir.slots.Slot.{Slot}
@@ -24,8 +25,6 @@ use Rattle.bitcask.specs.recovery.Recover.{items, recovered}
 use Rattle.bitcask.specs.recovery.Agree.{fit, Agrees}
 use Rattle.bitcask.proofs.recovery.FoldLaws.{recovered-sorted}
 use Rattle.bitcask.proofs.recovery.AgreeLaws.{agrees-slots, agrees-count}
-use Rattle.bitcask.specs.declared.check.Walked.{Walked}
-use Rattle.bitcask.specs.declared.check.Walked.TheVariants.{Broken, Met}
 use Rattle.bitcask.specs.check.Told.{zeroed, is_less, leads, risen, walked_in}
 use Rattle.bitcask.specs.check.Promises.{Tells}
 use Rattle.bitcask.proofs.check.WalkLaws.{walk_clean, walk_slots}
@@ -46,7 +45,7 @@ all-zeroed zero = refl
 all-zeroed (suc n) = all-zeroed n
 
 module _ (log : List ℕ) where
-  less_is : (o : Order) → is_less o ≡ true → o ≡ Less
+  less_is : (o : Ordering) → is_less o ≡ true → o ≡ Less
   less_is Less e = refl
   less_is Equal e = nope (cc)
   less_is Greater e = nope (cc)
@@ -105,8 +104,8 @@ module _ (log : List ℕ) (used : ℕ) (t : List ℕ) {n : ℕ} (c : n ≡ count
     keys_rise : risen log (slots_of n t) ≡ true
     keys_rise = ap (risen log) slots_are ∙ sorted-risen log (recovered-sorted log used)
 
-    walk_ends : walked_in log used (slots_of n t) 0 (items log used 0) ≡ Met n
-    walk_ends = ap (λ (xs : List Slot). walked_in log used xs 0 (items log used 0)) slots_are ∙ recovered_walk log used g.clean ∙ ap Met (sym count_are)
+    walk_ends : walked_in log used (slots_of n t) 0 (items log used 0) ≡ Some n
+    walk_ends = ap (λ (xs : List Slot). walked_in log used xs 0 (items log used 0)) slots_are ∙ recovered_walk log used g.clean ∙ ap Some (sym count_are)
 
   pub tell_more : {b : Bool} → b ≡ zeroed (drop (slot_words * n) t) → b ≡ false → Tells log used t false
   tell_more e f = never (λ g. nope (cc (zeros-past g)))
@@ -114,13 +113,13 @@ module _ (log : List ℕ) (used : ℕ) (t : List ℕ) {n : ℕ} (c : n ≡ count
   pub tell_unsorted : {b : Bool} → b ≡ risen log (slots_of n t) → b ≡ false → Tells log used t false
   tell_unsorted e f = never (λ g. nope (cc (keys_rise g)))
 
-  module _ {w : Walked} (q : w ≡ walked_in log used (slots_of n t) 0 (items log used 0)) where
-    pub tell_broken : w ≡ Broken → Tells log used t false
+  module _ {w : Option ℕ} (q : w ≡ walked_in log used (slots_of n t) 0 (items log used 0)) where
+    pub tell_broken : w ≡ None → Tells log used t false
     tell_broken f = never (λ g. nope (cc (walk_ends g)))
 
     -- every test passed: the count decides
     module _ {a b d : Bool} (sound : a ≡ fit (length log) used (length t)) (fits : a ≡ true) (zeros : b ≡ zeroed (drop (slot_words * n) t)) (clear : b ≡ true)
-        (rises : d ≡ risen log (slots_of n t)) (sorted : d ≡ true) (m : ℕ) (met : w ≡ Met m) where
+        (rises : d ≡ risen log (slots_of n t)) (sorted : d ≡ true) (m : ℕ) (met : w ≡ Some m) where
       table_are : slots_of n t ≡ recovered log used → t ≡ table_of (length t) (recovered log used)
       unfolding table_of
       table_are e =
@@ -134,12 +133,12 @@ module _ (log : List ℕ) (used : ℕ) (t : List ℕ) {n : ℕ} (c : n ≡ count
       tell_count =
           record {
             yes_so = λ e.
-                let z : walked_in log used (slots_of n t) 0 (items log used 0) ≡ Met m = sym q ∙ met in
+                let z : walked_in log used (slots_of n t) 0 (items log used 0) ≡ Some m = sym q ∙ met in
                 let l : m ≡ length (slots_of n t) = eqb-true m n e ∙ sym (slots_length n t) in
                 record {
                   sound = sym sound ∙ fits;
                   clean = walk_clean log used (slots_of n t) 0 (items log used 0) m z;
-                  words = table_are (walk_slots log used (slots_of n t) (risen-sorted log (slots_of n t) (sym rises ∙ sorted)) (z ∙ ap Met l));
+                  words = table_are (walk_slots log used (slots_of n t) (risen-sorted log (slots_of n t) (sym rises ∙ sorted)) (z ∙ ap Some l));
                 };
             so_yes = λ g. eq-eqb m n (let z = walk_ends g in cc);
           }

@@ -9,6 +9,7 @@ use lib.Dec.{leb, eqb}
 use lib.ListN.{length, drop, replicate}
 use lib.Seq.{drop_at}
 use borrow.Author.Tests.{le-leb, lt-leb}
+use Rattle.std.specs.Prelude.{Ok, Err, Option, ℕ, Some, None}
 use Rattle.keycode.specs.Tests.{pick}
 use Rattle.keycode.specs.Limits.{max_log}
 use Rattle.keycode.specs.Buffer.{put}
@@ -23,13 +24,10 @@ use Rattle.bitcask.specs.keydir.Slots.{slot_words, slots_of, words_of, table_of}
 use Rattle.bitcask.specs.keydir.Place.{count_of}
 use Rattle.bitcask.proofs.keydir.SlotLaws.{words-length, slots_length}
 use Rattle.bitcask.specs.declared.request.Used.{Used}
-use Rattle.bitcask.specs.declared.request.Changed.TheVariants.{Done, Refused}
 use Rattle.bitcask.specs.recovery.Recover.{recovered, live, view, map_of}
 use Rattle.bitcask.specs.recovery.Agree.{fit, Agrees}
 use Rattle.bitcask.proofs.recovery.FoldLaws.{map-rising}
 use Rattle.bitcask.proofs.recovery.AgreeLaws.{sound-fit, agrees-sound, agrees-slots}
-use Rattle.bitcask.specs.declared.report.Sum.{Sum}
-use Rattle.bitcask.specs.declared.report.Sum.TheVariants.{Total, Over}
 use Rattle.bitcask.specs.change.Append.{size_all, bytes_all}
 use Rattle.bitcask.specs.compaction.Compaction.{entries_of, capped, placed, Moved}
 use Rattle.bitcask.specs.compaction.Promises.{compact_answer, Compacts}
@@ -54,7 +52,7 @@ module _ (log : List ℕ) (used : ℕ) (t g : List ℕ) where
   -- ---- refused
 
   compact_refused : (z : Refusal) → eqb (number_of z) 13 ≡ not (pick (fit (length log) used (length t)) (leb (length g) max_log) false)
-      → (Agrees log used t → Refused z ≡ compact_answer log used (length t) (length g)) → Compacts log used t g (Refused z) t g
+      → (Agrees log used t → Err z ≡ compact_answer log used (length t) (length g)) → Compacts log used t g (Err z) t g
   compact_refused z b e = record {
     words = refused_stays z t t;
     bytes = refused_stays z g g;
@@ -67,31 +65,31 @@ module _ (log : List ℕ) (used : ℕ) (t g : List ℕ) where
     same = λ a q. absurd (never z q);
   }
 
-  compact_bad : pick (fit (length log) used (length t)) (leb (length g) max_log) false ≡ false → Compacts log used t g (Refused BadRequest) t g
+  compact_bad : pick (fit (length log) used (length t)) (leb (length g) max_log) false ≡ false → Compacts log used t g (Err BadRequest) t g
   compact_bad b = compact_refused BadRequest (rw b) (λ a. rw b)
 
-  pub compact_unfit : fit (length log) used (length t) ≡ false → Compacts log used t g (Refused BadRequest) t g
+  pub compact_unfit : fit (length log) used (length t) ≡ false → Compacts log used t g (Err BadRequest) t g
   compact_unfit f = compact_bad (rw f)
 
   module _ (fine : fit (length log) used (length t) ≡ true) where
-    pub compact_large : max_log < length g → Compacts log used t g (Refused BadRequest) t g
+    pub compact_large : max_log < length g → Compacts log used t g (Err BadRequest) t g
     compact_large h = compact_bad (rw (fine, lt-leb (length g) max_log h))
 
-    module _ (small : length g ≤ max_log) {n : ℕ} (en : n ≡ count_of t) {s : Sum} (es : s ≡ capped (length g) (live (slots_of n t))) where
+    module _ (small : length g ≤ max_log) {n : ℕ} (en : n ≡ count_of t) {s : Option ℕ} (es : s ≡ capped (length g) (live (slots_of n t))) where
       all_fine : pick (fit (length log) used (length t)) (leb (length g) max_log) false ≡ true
       all_fine = rw (fine, le-leb (length g) max_log small)
 
       live-is : Agrees log used t → live (slots_of n t) ≡ size_all (entries_of (map_of log used))
       live-is a = rw en (agrees-live log used t a)
 
-      pub compact_full : s ≡ Over → Compacts log used t g (Refused LogFull) t g
+      pub compact_full : s ≡ None → Compacts log used t g (Err LogFull) t g
       compact_full e =
           let h : length g < live (slots_of n t) = over-says (length g) (live (slots_of n t)) (sym e ∙ es) in
           compact_refused LogFull (rw all_fine) (λ a. rw (all_fine, lt-leb (size_all (entries_of (map_of log used))) (length g) (omega (arith, live-is a))))
 
       -- ---- moved
 
-      module _ (l : ℕ) (e : s ≡ Total l) where
+      module _ (l : ℕ) (e : s ≡ Some l) where
         pub compact_room : size_all (entries_of (view log (slots_of n t))) ≤ length g
         compact_room = omega (arith, (total_says (length g) (live (slots_of n t)) l (sym e ∙ es)).1, sizes_live log (slots_of n t))
 
@@ -142,10 +140,10 @@ module _ (log : List ℕ) (used : ℕ) (t g : List ℕ) where
             compact_same : map_of g' (size_all (entries_of (map_of log used))) ≡ map_of log used
             compact_same = rw target_is (packed_all g small (map_of log used) (map-rising log used) room-all).map
 
-            answer-is : Done (record { len = r }) ≡ compact_answer log used (length t) (length g)
-            answer-is = rw (all_fine, le-leb (size_all (entries_of (map_of log used))) (length g) room-all) (ap (λ (x : ℕ). Done (record { len = x })) size_is)
+            answer-is : Ok (record { len = r }) ≡ compact_answer log used (length t) (length g)
+            answer-is = rw (all_fine, le-leb (size_all (entries_of (map_of log used))) (length g) room-all) (ap (λ (x : ℕ). Ok (record { len = x })) size_is)
 
-          pub compact_done : Compacts log used t g (Done (record { len = r })) t' g'
+          pub compact_done : Compacts log used t g (Ok (record { len = r })) t' g'
           compact_done = record {
             words = refl;
             bytes = refl;

@@ -10,6 +10,7 @@ use lib.Dec.{leb}
 use lib.ListN.{length, drop, length-take, length-drop, drop_of_length-le}
 use lib.Seq.{drop-cons}
 use borrow.Author.Tests.{le-leb, lt-leb, leb-true, leb-false}
+use Rattle.std.specs.Prelude.{Option, ℕ, Some, None, Ok, Err}
 use Rattle.keycode.specs.Tests.{pick}
 use Rattle.keycode.specs.declared.refusal.Refusal.TheVariants.{BadRequest}
 use Rattle.keycode.proofs.Basics.{nope}
@@ -22,10 +23,7 @@ use Rattle.bitcask.specs.recovery.Recover.{live, view, map_of}
 use Rattle.bitcask.specs.recovery.Agree.{fit, Agrees}
 use Rattle.bitcask.proofs.recovery.FoldLaws.{Inside, recovered-inside, recovered-live, live-count}
 use Rattle.bitcask.proofs.recovery.AgreeLaws.{agrees-sound, agrees-count, agrees-slots, map-length}
-use Rattle.bitcask.specs.declared.report.Sum.{Sum}
-use Rattle.bitcask.specs.declared.report.Sum.TheVariants.{Total, Over}
 use Rattle.bitcask.specs.declared.report.Counts.{Counts}
-use Rattle.bitcask.specs.declared.report.Counted.TheVariants.{Done, Refused}
 use Rattle.bitcask.specs.change.Append.{size_all}
 use Rattle.bitcask.specs.compaction.Compaction.{entries_of, contents, capped}
 use Rattle.bitcask.specs.compaction.Promises.{counts_of, Counting}
@@ -33,27 +31,27 @@ use Rattle.bitcask.specs.compaction.Promises.{counts_of, Counting}
 -- ---- the sum
 
 module _ (cap n : ℕ) where
-  within_cap : n ≤ cap → Total n ≡ capped cap n
+  within_cap : n ≤ cap → Some n ≡ capped cap n
   unfolding capped
   within_cap h = rw (le-leb n cap h)
 
-  over_cap : cap < n → Over ≡ capped cap n
+  over_cap : cap < n → None ≡ capped cap n
   unfolding capped
   over_cap h = rw (lt-leb n cap h)
 
-  pub total_says : (l : ℕ) → Total l ≡ capped cap n → (l ≡ n) × (n ≤ cap)
+  pub total_says : (l : ℕ) → Some l ≡ capped cap n → (l ≡ n) × (n ≤ cap)
   unfolding capped
   total_says l e = go (leb n cap) refl e
     where
-      go : (b : Bool) → leb n cap ≡ b → Total l ≡ pick b (Total n) Over → (l ≡ n) × (n ≤ cap)
+      go : (b : Bool) → leb n cap ≡ b → Some l ≡ pick b (Some n) None → (l ≡ n) × (n ≤ cap)
       go true t p = (cc, leb-true n cap t)
       go false t p = nope (cc)
 
-  pub over-says : Over ≡ capped cap n → cap < n
+  pub over-says : None ≡ capped cap n → cap < n
   unfolding capped
   over-says e = go (leb n cap) refl e
     where
-      go : (b : Bool) → leb n cap ≡ b → Over ≡ pick b (Total n) Over → cap < n
+      go : (b : Bool) → leb n cap ≡ b → None ≡ pick b (Some n) None → cap < n
       go true t p = nope (cc)
       go false t p = leb-false n cap t
 
@@ -67,7 +65,7 @@ pub sum_start : (t : List ℕ) (n cap : ℕ) → Summing t n cap 0 0
 sum_start t n cap = record { near = omega arith; small = omega arith; rest = omega arith }
 
 module _ {t : List ℕ} {n cap total i : ℕ} (w : Summing t n cap total i) where
-  pub sum_end : n ≤ i → Total total ≡ capped cap (live (slots_of n t))
+  pub sum_end : n ≤ i → Some total ≡ capped cap (live (slots_of n t))
   unfolding live
   sum_end h =
       let l = slots_length n t in
@@ -83,7 +81,7 @@ module _ {t : List ℕ} {n cap total i : ℕ} (w : Summing t n cap total i) wher
         let l = slots_length n t in
         rw (add-one, drop-cons (slots_of n t) i free_slot (omega arith), ← slot_at_is n t i here, ← es, em)
 
-    pub sum_over : cap - total < m → Over ≡ capped cap (live (slots_of n t))
+    pub sum_over : cap - total < m → None ≡ capped cap (live (slots_of n t))
     sum_over h = over_cap cap (live (slots_of n t)) (omega (arith, sum-next, w.rest))
 
     pub sum_more : m ≤ cap - total → Summing t n cap (total + m) (i + 1)
@@ -120,23 +118,23 @@ module _ (log : List ℕ) (used : ℕ) (t : List ℕ) (g : Agrees log used t) wh
 -- ---- the status
 
 module _ (log : List ℕ) (used : ℕ) (t : List ℕ) where
-  pub counting-bad : fit (length log) used (length t) ≡ false → Counting log used t (Refused BadRequest)
+  pub counting-bad : fit (length log) used (length t) ≡ false → Counting log used t (Err BadRequest)
   counting-bad f = record { bad = rw f; answer = λ g. nope (cc (g.sound, f)) }
 
-  module _ (fine : fit (length log) used (length t) ≡ true) {n : ℕ} (en : n ≡ count_of t) {s : Sum} (es : s ≡ capped used (live (slots_of n t))) where
-    pub counting-over : (c : Counts) → s ≡ Over → Counting log used t (Done c)
+  module _ (fine : fit (length log) used (length t) ≡ true) {n : ℕ} (en : n ≡ count_of t) {s : Option ℕ} (es : s ≡ capped used (live (slots_of n t))) where
+    pub counting-over : (c : Counts) → s ≡ None → Counting log used t (Ok c)
     counting-over c e =
         let h : used < live (slots_of n t) = over-says used (live (slots_of n t)) (sym e ∙ es) in
         record { bad = rw fine; answer = λ g. let k = agrees_cap log used t g in let q : live (slots_of n t) ≡ live (slots_of (count_of t) t) = rw en in absurd (omega arith) }
 
-    module _ (l : ℕ) (e : s ≡ Total l) where
+    module _ (l : ℕ) (e : s ≡ Some l) where
       pub counting-room : 8 * n ≤ l
       counting-room =
           let h = total_says used (live (slots_of n t)) l (sym e ∙ es) in
           let k = live-count (slots_of n t) in
           omega (arith, slots_length n t, h.0)
 
-      pub counting_done : Counting log used t (Done (record { keys = n; size = l - 8 * n; used = used; live = l }))
+      pub counting_done : Counting log used t (Ok (record { keys = n; size = l - 8 * n; used = used; live = l }))
       unfolding counts_of
       counting_done = record {
         bad = rw fine;
@@ -148,5 +146,5 @@ module _ (log : List ℕ) (used : ℕ) (t : List ℕ) where
             let k : n ≡ length (map_of log used) = en ∙ agrees-count log used t g ∙ sym (map-length log used) in
             let x : l ≡ contents (map_of log used) + 8 * length (map_of log used) = omega (arith, h.0) in
             let y : l - 8 * n ≡ contents (map_of log used) = omega arith in
-            λ j. Done (record { keys = k j; size = y j; used = used; live = x j });
+            λ j. Ok (record { keys = k j; size = y j; used = used; live = x j });
       }

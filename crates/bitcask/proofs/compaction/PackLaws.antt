@@ -6,15 +6,14 @@ use mathlib.Core.List.{List, [], ◌∷◌, ◌++◌, append_assoc, append-nil}
 use native.Mathlib.Omega.{arith}
 use lib.ListN.{length, length-append}
 use lib.Seq.{take-length, drop-length}
+use Rattle.std.specs.Prelude.{Result, ℕ, Err}
+use Rattle.std.specs.declared.cmp.Ordering.TheVariants.{Less}
 use Rattle.keycode.specs.Limits.{max_log}
 use Rattle.keycode.specs.Buffer.{put}
 use Rattle.keycode.specs.Order.{compare_bytes}
-use Rattle.keycode.specs.declared.order.Order.TheVariants.{Less}
 use Rattle.keycode.proofs.BufferLaws.{length-put}
 use Rattle.bitcask.specs.entry.Entry.{Entry, set, bytes_of, size_of}
 use Rattle.bitcask.specs.declared.keydir.slots.Slot.{Slot}
-use Rattle.bitcask.specs.declared.keydir.place.Found.{Found}
-use Rattle.bitcask.specs.declared.keydir.place.Found.TheVariants.{Before}
 use Rattle.bitcask.specs.keydir.Slots.{insert_at}
 use Rattle.bitcask.specs.keydir.Place.{place_in, put_at, All, all_none, all_more}
 use Rattle.bitcask.specs.recovery.Map.{Pair, put_in, after, Rising, rising-more}
@@ -32,7 +31,7 @@ use Rattle.bitcask.proofs.compaction.MoveLaws.{size_append, bytes-length, size_m
 abbrev Below : List ℕ → List Pair → Type 0
 Below k m = All (λ (q : Pair). compare_bytes q.key k ≡ Less) m
 
-place-last : (log key : List ℕ) (ss : List Slot) → Below key (view log ss) → place_in log key ss ≡ Before (length ss)
+place-last : (log key : List ℕ) (ss : List Slot) → Below key (view log ss) → place_in log key ss ≡ Err (length ss)
 unfolding view place_in
 place-last log key [] b = refl
 place-last log key (s ∷ ss) (all_more e r) = rw (e, place-last log key ss r)
@@ -108,7 +107,7 @@ module _ (g : List ℕ) (small : length g ≤ max_log) (m : List Pair) (q : Pair
       let rs = recovered log (size_all es) in
       let s = slot_of (size_all es) e in
       append-slots log (size_all es) e log-small log-room p.clean
-      ∙ ap (λ (f : Found). put_at s f rs) (place-last log q.key rs (subst (λ (x : List Pair). Below q.key x) (sym p.map) low))
+      ∙ ap (λ (f : Result ℕ ℕ). put_at s f rs) (place-last log q.key rs (subst (λ (x : List Pair). Below q.key x) (sym p.map) low))
       ∙ insert_last s rs ∙ ap (λ (x : List Slot). x ++ (s ∷ [])) p.slots ∙ sym (placed-more es e)
 
   map_more : map_of (put log (size_all es) (bytes_of e)) (size_all es + size_of e) ≡ m ++ (q ∷ [])

@@ -5,11 +5,11 @@ use mathlib.Core.Path.{◌≡◌, refl, sym, ap, ◌∙◌, subst}
 use mathlib.Core.List.{List, [], ◌∷◌}
 use native.Mathlib.Omega.{arith}
 use lib.ListN.{length, get_or}
+use Rattle.std.specs.declared.cmp.Ordering.{Ordering}
+use Rattle.std.specs.declared.cmp.Ordering.TheVariants.{Less, Equal, Greater}
 use Rattle.keycode.specs.Limits.{max_log}
 use Rattle.keycode.specs.Buffer.{put}
 use Rattle.keycode.specs.Order.{compare_bytes}
-use Rattle.keycode.specs.declared.order.Order.{Order}
-use Rattle.keycode.specs.declared.order.Order.TheVariants.{Less, Equal, Greater}
 use Rattle.keycode.proofs.BufferLaws.{length-put}
 use Rattle.bitcask.specs.entry.Entry.{del, bytes_of, size_of}
 use Rattle.bitcask.proofs.entry.EntryLaws.{length-bytes}
@@ -33,7 +33,7 @@ use Rattle.bitcask.proofs.engine.SpanLaws.{from_next, from_end}
 
 -- ---- a map without a key
 
-cut_length_on : (k : List ℕ) (q : Pair) (m : List Pair) (o : Order) → compare_bytes q.key k ≡ o → length (cut_in k m) ≤ length m → length (cut_in k (q ∷ m)) ≤ length (q ∷ m)
+cut_length_on : (k : List ℕ) (q : Pair) (m : List Pair) (o : Ordering) → compare_bytes q.key k ≡ o → length (cut_in k m) ≤ length m → length (cut_in k (q ∷ m)) ≤ length (q ∷ m)
 unfolding cut_in
 cut_length_on k q m Less e ih = rw e (omega arith)
 cut_length_on k q m Equal e ih = rw e (omega arith)

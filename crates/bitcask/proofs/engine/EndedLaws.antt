@@ -9,16 +9,15 @@ use lib.Dec.{ltb}
 use lib.ListN.{length, take, drop, replicate, length-append, length-drop, replicate-append-replicate}
 use lib.Seq.{drop_at, length-take-le}
 use borrow.Author.Tests.{lt-ltb, le-ltb}
+use Rattle.std.specs.Prelude.{Result, ℕ, Ok}
+use Rattle.std.specs.declared.cmp.Ordering.TheVariants.{Less}
 use Rattle.keycode.specs.Tests.{pick}
 use Rattle.keycode.specs.Order.{compare_bytes}
-use Rattle.keycode.specs.declared.order.Order.TheVariants.{Less}
 use Rattle.keycode.proofs.OrderLaws.{compare_refl}
 use Rattle.keycode.proofs.BufferLaws.{length-put}
 use Rattle.bitcask.specs.entry.Entry.{del, bytes_of}
 use Rattle.bitcask.proofs.entry.EntryLaws.{length-bytes, laid-before}
 use Rattle.bitcask.specs.declared.keydir.slots.Slot.{Slot}
-use Rattle.bitcask.specs.declared.keydir.place.Found.{Found}
-use Rattle.bitcask.specs.declared.keydir.place.Found.TheVariants.{At}
 use Rattle.bitcask.specs.keydir.Slots.{slot_words, slots_of, words_of, key_of, remove_at, remove_span}
 use Rattle.bitcask.specs.keydir.Place.{place_of, place_in, further, cut_at, laid, All, all_none, all_more, Sorted, sorted_none, sorted_more}
 use Rattle.bitcask.proofs.keydir.SlotLaws.{slots_length, words-length, words-slots}
@@ -64,7 +63,7 @@ inside_on h all_none = all_none
 inside_on {u} {v} h (all_more i a) = all_more (inside_one u v h i) (inside_on h a)
 
 -- a slot's own key is found at the slot
-place_self : (log : List ℕ) (pre : List Slot) (x : Slot) (post : List Slot) → Sorted log (pre ++ (x ∷ post)) → place_in log (key_of log x) (pre ++ (x ∷ post)) ≡ At (length pre)
+place_self : (log : List ℕ) (pre : List Slot) (x : Slot) (post : List Slot) → Sorted log (pre ++ (x ∷ post)) → place_in log (key_of log x) (pre ++ (x ∷ post)) ≡ Ok (length pre)
 unfolding place_in
 place_self log [] x post o = rw (compare_refl (key_of log x))
 place_self log (y ∷ pre) x post (sorted_more a o) = rw (all-at pre x post a) (ap further (place_self log pre x post o))
@@ -169,7 +168,7 @@ module _ (s : State) (pre : List Slot) (x : Slot) (post : List Slot) (w : Risen 
   cut_is : cut_at (place_of s.log (key_of s.log x) (slots_of s.count s.table)) (slots_of s.count s.table) ≡ pre ++ post
   cut_is =
       ap (λ (ss : List Slot). cut_at (place_of s.log (key_of s.log x) ss) ss) w.slots
-      ∙ ap (λ (f : Found). cut_at f (pre ++ (x ∷ post))) (place-sorted s.log (key_of s.log x) (pre ++ (x ∷ post)) w.sorted ∙ place_self s.log pre x post w.sorted)
+      ∙ ap (λ (f : Result ℕ ℕ). cut_at f (pre ++ (x ∷ post))) (place-sorted s.log (key_of s.log x) (pre ++ (x ∷ post)) w.sorted ∙ place_self s.log pre x post w.sorted)
       ∙ remove_self pre x post
 
   fewer : length (pre ++ post) + 1 ≡ s.count

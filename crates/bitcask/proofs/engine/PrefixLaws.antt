@@ -9,12 +9,12 @@ use lib.Dec.{ltb, eqb}
 use lib.ListN.{length, take, drop, set, length-append}
 use lib.Seq.{take_at, length-take-le}
 use borrow.Author.Tests.{eqb-true, eq-eqb}
+use Rattle.std.specs.declared.cmp.Ordering.{Ordering}
+use Rattle.std.specs.declared.cmp.Ordering.TheVariants.{Less, Equal, Greater}
 use Rattle.keycode.specs.Tests.{pick}
 use Rattle.keycode.specs.Buffer.{put}
 use Rattle.keycode.specs.Order.{compare_bytes, by_order}
 use Rattle.keycode.specs.Prefix.{prefix_end, in_front, Under}
-use Rattle.keycode.specs.declared.order.Order.{Order}
-use Rattle.keycode.specs.declared.order.Order.TheVariants.{Less, Equal, Greater}
 use Rattle.keycode.specs.declared.prefix.End.{End}
 use Rattle.keycode.specs.declared.prefix.End.TheVariants as Ends
 use Rattle.keycode.proofs.Basics.{nope}
@@ -105,12 +105,12 @@ begins-split (x ∷ p) (y ∷ k) e = go (eqb y x) refl e (λ f. begins-split p k
 abbrev inside_of : List ℕ → List ℕ → Bool
 inside_of p k = inside Included p (end_bound (prefix_end p)) (end_bytes p (prefix_end p)) k
 
-low_least : (o : Order) → (o ≡ Less → ⊥) → admits_low Included o ≡ true
+low_least : (o : Ordering) → (o ≡ Less → ⊥) → admits_low Included o ≡ true
 low_least Less n = absurd (n refl)
 low_least Equal n = refl
 low_least Greater n = refl
 
-least_low : (o : Order) → admits_low Included o ≡ true → o ≡ Less → ⊥
+least_low : (o : Ordering) → admits_low Included o ≡ true → o ≡ Less → ⊥
 least_low o e l = let z : ◌≡◌ {A = Bool} false true = rw l at e in nope (cc)
 
 high_under : (k p : List ℕ) (u : End) → Under k p u → admits_high (end_bound u) (compare_bytes k (end_bytes p u)) ≡ true
@@ -121,7 +121,7 @@ under_high : (k p : List ℕ) (u : End) → admits_high (end_bound u) (compare_b
 under_high k p Ends.Unbounded e = tt
 under_high k p (Ends.Raised n l) e = go (compare_bytes k (take n p ++ (l ∷ []))) e
   where
-    go : (o : Order) → by_order o true false false ≡ true → o ≡ Less
+    go : (o : Ordering) → by_order o true false false ≡ true → o ≡ Less
     go Less f = refl
     go Equal f = nope (cc)
     go Greater f = nope (cc)

@@ -10,9 +10,9 @@ use lib.Dec.{leb}
 use lib.ListN.{length, take, get_or, length-take, drop_of_length-le}
 use lib.Seq.{take-suc, length-take-le, drop-append-le}
 use borrow.Author.Tests.{le-leb, lt-leb, lt-ltb, le-ltb}
+use Rattle.std.specs.Prelude.{Result, ℕ, Ok, Err}
 use Rattle.keycode.specs.Tests.{pick}
 use Rattle.bitcask.specs.declared.keydir.slots.Slot.{Slot}
-use Rattle.bitcask.specs.declared.keydir.place.Found.{Found as Place}
 use Rattle.bitcask.specs.keydir.Place.{All, all_none, all_more, order_at, Sorted, Among}
 use Rattle.bitcask.proofs.keydir.HalveLaws.{halved-among}
 use Rattle.bitcask.specs.recovery.Map.{Pair, pairs_of}
@@ -33,13 +33,13 @@ use Rattle.bitcask.proofs.engine.RowLaws.{rows-length, rows_at, rows_agree, in_m
 
 -- ---- ranks lie among the rows
 
-before-among : (n : ℕ) (f : Place) → Among n f → before_at f ≤ n
-before-among n (Place.At i) a = omega arith
-before-among n (Place.Before i) a = a
+before-among : (n : ℕ) (f : Result ℕ ℕ) → Among n f → before_at f ≤ n
+before-among n (Ok i) a = omega arith
+before-among n (Err i) a = a
 
-through_among : (n : ℕ) (f : Place) → Among n f → through_at f ≤ n
-through_among n (Place.At i) a = omega arith
-through_among n (Place.Before i) a = a
+through_among : (n : ℕ) (f : Result ℕ ℕ) → Among n f → through_at f ≤ n
+through_among n (Ok i) a = omega arith
+through_among n (Err i) a = a
 
 module _ (key : List ℕ) (rs : List Row) where
   pub place-among : Among (length rs) (place_by key rs)

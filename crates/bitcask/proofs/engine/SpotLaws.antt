@@ -6,10 +6,10 @@ use mathlib.Core.List.{List}
 use native.Mathlib.Omega.{arith}
 use lib.ListN.{length, drop, length-take, length-drop}
 use borrow.Author.Tests.{not-true, not-false}
+use Rattle.std.specs.Prelude.{Result, ℕ, Ok, Err}
 use Rattle.keycode.specs.declared.refusal.Refusal.{Refusal}
 use Rattle.keycode.specs.declared.refusal.Refusal.TheVariants.{BadRequest}
 use Rattle.bitcask.specs.declared.keydir.slots.Slot.{Slot}
-use Rattle.bitcask.specs.declared.keydir.place.Found.{Found as Place}
 use Rattle.bitcask.specs.keydir.Slots.{slot_words, slot_at, slots_of, key_of, value_of}
 use Rattle.bitcask.specs.keydir.Place.{place_of, count_of}
 use Rattle.bitcask.proofs.keydir.SlotLaws.{slot_at_is}
@@ -21,10 +21,7 @@ use Rattle.bitcask.proofs.recovery.AgreeLaws.{fit-sound}
 use Rattle.bitcask.specs.declared.answers.Bound.{Bound}
 use Rattle.bitcask.specs.read.Ranks.{from_bound, upto_bound}
 use Rattle.bitcask.specs.declared.engine.mark.Mark.{Mark}
-use Rattle.bitcask.specs.declared.engine.mark.Entered.{Entered}
-use Rattle.bitcask.specs.declared.engine.mark.Entered.TheVariants.{In, Refused}
 use Rattle.bitcask.specs.declared.engine.spot.Spot.{Spot}
-use Rattle.bitcask.specs.declared.engine.spot.Found.TheVariants.{At, Absent}
 use Rattle.bitcask.specs.engine.Rows.{Row, row_of, rows, key_place, value_place, offset_of}
 use Rattle.bitcask.specs.engine.Marks.{mark_of, entered_by, Held, Agreeing}
 use Rattle.bitcask.specs.engine.Spots.{rank, row_at, placed, place_by, from_rank, upto_rank}
@@ -33,50 +30,50 @@ use Rattle.bitcask.proofs.engine.RowLaws.{rows_at, rows-count, place-rows, from-
 -- ---- the way in
 
 module _ (log : List ℕ) (used : Used) (t : List ℕ) (b : Bool) (says : b ≡ fit (length log) used.len (length t)) where
-  pub enter_bad : not b ≡ true → Refused BadRequest ≡ entered_by log used t
+  pub enter_bad : not b ≡ true → Err BadRequest ≡ entered_by log used t
   unfolding entered_by
   enter_bad e = rw (← says, not-true b e)
 
-  pub enter_in : not b ≡ false → (n : ℕ) → n ≡ count_of t → In (record { used = used; count = n }) ≡ entered_by log used t
+  pub enter_in : not b ≡ false → (n : ℕ) → n ≡ count_of t → Ok (record { used = used; count = n }) ≡ entered_by log used t
   unfolding entered_by
   enter_in e n en = rw (← says, not-false b e, en)
 
 -- what a caller knows of an answer
-module _ (log : List ℕ) (used : Used) (t : List ℕ) (r : Entered) (says : r ≡ entered_by log used t) where
-  pub in_fits : (m : Mark) → r ≡ In m → (fit (length log) used.len (length t) ≡ true) × (m ≡ mark_of used t)
+module _ (log : List ℕ) (used : Used) (t : List ℕ) (r : Result Mark Refusal) (says : r ≡ entered_by log used t) where
+  pub in_fits : (m : Mark) → r ≡ Ok m → (fit (length log) used.len (length t) ≡ true) × (m ≡ mark_of used t)
   unfolding entered_by
   in_fits m e = go (fit (length log) used.len (length t)) refl
     where
       go : (b : Bool) → fit (length log) used.len (length t) ≡ b → (fit (length log) used.len (length t) ≡ true) × (m ≡ mark_of used t)
-      go true f = let q : In m ≡ In (mark_of used t) = sym e ∙ says ∙ rw f in (f, cc)
-      go false f = let q : In m ≡ Refused BadRequest = sym e ∙ says ∙ rw f in nope (cc)
+      go true f = let q : Ok m ≡ Ok (mark_of used t) = sym e ∙ says ∙ rw f in (f, cc)
+      go false f = let q : Ok m ≡ Err BadRequest = sym e ∙ says ∙ rw f in nope (cc)
 
-  pub in_held : (m : Mark) → r ≡ In m → Held log t m
+  pub in_held : (m : Mark) → r ≡ Ok m → Held log t m
   in_held m e =
       let w = in_fits m e in
       let s = fit-sound (length log) used.len (length t) w.0 in
       rw w.1 (record { small = s.small; within = s.within; room = count-within t })
 
-  pub in_agreeing : (m : Mark) → r ≡ In m → Agrees log used.len t → Agreeing log t m
+  pub in_agreeing : (m : Mark) → r ≡ Ok m → Agrees log used.len t → Agreeing log t m
   in_agreeing m e g = rw (in_fits m e).1 (record { agrees = g; count = refl })
 
-  pub refused_fits : (x : Refusal) → r ≡ Refused x → (fit (length log) used.len (length t) ≡ false) × (x ≡ BadRequest)
+  pub refused_fits : (x : Refusal) → r ≡ Err x → (fit (length log) used.len (length t) ≡ false) × (x ≡ BadRequest)
   unfolding entered_by
   refused_fits x e = go (fit (length log) used.len (length t)) refl
     where
       go : (b : Bool) → fit (length log) used.len (length t) ≡ b → (fit (length log) used.len (length t) ≡ false) × (x ≡ BadRequest)
-      go true f = let q : ◌≡◌ {A = Entered} (Refused x) (In (mark_of used t)) = sym e ∙ says ∙ rw f in nope (cc)
-      go false f = let q : ◌≡◌ {A = Entered} (Refused x) (Refused BadRequest) = sym e ∙ says ∙ rw f in (f, cc)
+      go true f = let q : ◌≡◌ {A = Result Mark Refusal} (Err x) (Ok (mark_of used t)) = sym e ∙ says ∙ rw f in nope (cc)
+      go false f = let q : ◌≡◌ {A = Result Mark Refusal} (Err x) (Err BadRequest) = sym e ∙ says ∙ rw f in (f, cc)
 
 -- ---- places
 
 module _ (log t : List ℕ) (m : Mark) where
-  module _ (key : List ℕ) (f : Place) (says : f ≡ place_of log key (slots_of m.count t)) (i : ℕ) where
-    pub find_at : f ≡ Place.At i → placed (At (record { number = i })) (rows log t m) ≡ place_by key (rows log t m)
+  module _ (key : List ℕ) (f : Result ℕ ℕ) (says : f ≡ place_of log key (slots_of m.count t)) (i : ℕ) where
+    pub find_at : f ≡ Ok i → placed (Ok (record { number = i })) (rows log t m) ≡ place_by key (rows log t m)
     unfolding rows rank
     find_at e = sym (place-rows log key (slots_of m.count t) ∙ sym says ∙ e)
 
-    pub find_absent : f ≡ Place.Before i → placed (Absent (record { number = i })) (rows log t m) ≡ place_by key (rows log t m)
+    pub find_absent : f ≡ Err i → placed (Err (record { number = i })) (rows log t m) ≡ place_by key (rows log t m)
     unfolding rows rank
     find_absent e = sym (place-rows log key (slots_of m.count t) ∙ sym says ∙ e)
 

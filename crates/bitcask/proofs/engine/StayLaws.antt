@@ -2,9 +2,9 @@
 use mathlib.Core.Path.{◌≡◌, refl, ◌∙◌}
 use mathlib.Core.List.{List, [], ◌∷◌}
 use Prim.Native.Nat.{ℕ}
+use Rattle.std.specs.declared.cmp.Ordering.{Ordering}
+use Rattle.std.specs.declared.cmp.Ordering.TheVariants.{Less, Equal, Greater}
 use Rattle.keycode.specs.Order.{compare_bytes}
-use Rattle.keycode.specs.declared.order.Order.{Order}
-use Rattle.keycode.specs.declared.order.Order.TheVariants.{Less, Equal, Greater}
 use Rattle.keycode.proofs.OrderLaws.{compare_trans, compare_equal, compare_flip}
 use Rattle.bitcask.specs.declared.keydir.slots.Slot.{Slot}
 use Rattle.bitcask.specs.keydir.Slots.{key_of, insert_at, replace_at}
@@ -22,7 +22,7 @@ module _ (log : List ℕ) (s : Slot) (k : List ℕ) (less : compare_bytes k (key
   unfolding place_in
   stays_less x ss e ih = rw (e, put-further s x ss (place_in log (key_of log s) ss), ih)
 
-  stays-more : (x : Slot) (ss : List Slot) (o : Order) → compare_bytes (key_of log x) (key_of log s) ≡ o → compare_bytes (key_of log x) k ≡ Greater
+  stays-more : (x : Slot) (ss : List Slot) (o : Ordering) → compare_bytes (key_of log x) (key_of log s) ≡ o → compare_bytes (key_of log x) k ≡ Greater
       → place_in log k (put_at s (place_in log (key_of log s) ss) ss) ≡ place_in log k ss
       → place_in log k (put_at s (place_in log (key_of log s) (x ∷ ss)) (x ∷ ss)) ≡ place_in log k (x ∷ ss)
   unfolding place_in replace_at insert_at
@@ -30,7 +30,7 @@ module _ (log : List ℕ) (s : Slot) (k : List ℕ) (less : compare_bytes k (key
   stays-more x ss Equal e g ih = rw (e, g, more)
   stays-more x ss Greater e g ih = rw (e, g, more)
 
-  stays_on : (x : Slot) (ss : List Slot) (o : Order) → compare_bytes (key_of log x) k ≡ o
+  stays_on : (x : Slot) (ss : List Slot) (o : Ordering) → compare_bytes (key_of log x) k ≡ o
       → place_in log k (put_at s (place_in log (key_of log s) ss) ss) ≡ place_in log k ss
       → place_in log k (put_at s (place_in log (key_of log s) (x ∷ ss)) (x ∷ ss)) ≡ place_in log k (x ∷ ss)
   stays_on x ss Less g ih = stays_less x ss (compare_trans (key_of log x) k (key_of log s) g less) ih

@@ -12,19 +12,18 @@ use borrow.Author.Tests.{ltb-true, le-ltb, lt-ltb}
 use mir.Syntax.{w32, w64}
 use mir.Val.{Fits, SFits, to_z, of_z}
 use mir.ValLaws.{to_z-of_z, to_z_pos}
+use Rattle.std.specs.Prelude.{Option, ℕ, Some, None}
 use Rattle.keycode.proofs.Basics.{nope}
-use Rattle.bitcask.specs.declared.entry.length.Len.{Len}
-use Rattle.bitcask.specs.declared.entry.length.Len.TheVariants.{Bytes, Gone}
 use Rattle.bitcask.specs.entry.Length.{signed_of, len_of, length_of}
 
 -- ---- the sign test, on a number as a register holds it
 
-below-zero : (v : ℤ) → lt_z v (pos 0) ≡ true → Gone ≡ len_of v
+below-zero : (v : ℤ) → lt_z v (pos 0) ≡ true → None ≡ len_of v
 unfolding len_of
 below-zero (pos n) h = absurd (let k : n < 0 = ltb-true n 0 h in omega arith)
 below-zero (negsuc n) h = refl
 
-from_zero : (v : ℤ) → lt_z v (pos 0) ≡ false → Bytes (nat_abs v) ≡ len_of v
+from_zero : (v : ℤ) → lt_z v (pos 0) ≡ false → Some (nat_abs v) ≡ len_of v
 unfolding len_of
 from_zero (pos n) h = refl
 from_zero (negsuc n) h = nope (cc)
@@ -34,10 +33,10 @@ from_zero_fits (pos n) f h = (tt, record { fits = let k = f.sfits in omega arith
 from_zero_fits (negsuc n) f h = nope (cc)
 
 module _ (v : ℤ) (f : SFits w32 v) where
-  pub sign_gone : lt_z (to_z w32 (of_z w32 v)) (pos 0) ≡ true → Gone ≡ len_of v
+  pub sign_gone : lt_z (to_z w32 (of_z w32 v)) (pos 0) ≡ true → None ≡ len_of v
   sign_gone h = below-zero v (rw (to_z-of_z w32 v f) at h)
 
-  pub sign_bytes : lt_z (to_z w32 (of_z w32 v)) (pos 0) ≡ false → Bytes (nat_abs (to_z w32 (of_z w32 v))) ≡ len_of v
+  pub sign_bytes : lt_z (to_z w32 (of_z w32 v)) (pos 0) ≡ false → Some (nat_abs (to_z w32 (of_z w32 v))) ≡ len_of v
   sign_bytes h = rw (to_z-of_z w32 v f) (from_zero v (rw (to_z-of_z w32 v f) at h))
 
   -- the cast to usize loses nothing
@@ -67,16 +66,16 @@ module _ (n : ℕ) where
     bits_large = to_z-of_z w32 _ bits_fit ∙ bits_less ∙ simp (le-ltb n (2 ^ 31) h)
 
 -- both steps, of what the code has made of the bits
-pub length_made : (n : ℕ) {z : ℤ} {l : Len} → SFits w32 z → z ≡ signed_of n → l ≡ len_of (to_z w32 (of_z w32 z)) → l ≡ length_of n
+pub length_made : (n : ℕ) {z : ℤ} {l : Option ℕ} → SFits w32 z → z ≡ signed_of n → l ≡ len_of (to_z w32 (of_z w32 z)) → l ≡ length_of n
 unfolding length_of
 length_made n {z} f e g = g ∙ ap len_of (to_z-of_z w32 z f ∙ e)
 
 -- ---- the lengths that a writer states
 
-pub length-small : (n : ℕ) → n < 2 ^ 31 → length_of n ≡ Bytes n
+pub length-small : (n : ℕ) → n < 2 ^ 31 → length_of n ≡ Some n
 unfolding length_of signed_of len_of
 length-small n h = rw (lt-ltb n (2 ^ 31) h)
 
-pub length-gone : length_of (2 ^ 32 - 1) ≡ Gone
+pub length-gone : length_of (2 ^ 32 - 1) ≡ None
 unfolding length_of signed_of len_of
 length-gone = refl

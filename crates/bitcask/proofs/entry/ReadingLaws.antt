@@ -11,11 +11,10 @@ use lib.Dec.{leb, lit<}
 use lib.ListN.{length, take, drop, length-take}
 use lib.Seq.{take-take}
 use borrow.Author.Tests.{le-leb, lt-leb}
+use Rattle.std.specs.Prelude.{Option, ℕ, Some, None}
 use Rattle.keycode.specs.Tests.{pick}
 use Rattle.keycode.specs.Number.{num}
 use Rattle.keycode.proofs.NumberLaws.{Bytes as AllBytes, bytes_take, bytes_drop, num-bound}
-use Rattle.bitcask.specs.declared.entry.length.Len.{Len}
-use Rattle.bitcask.specs.declared.entry.length.Len.TheVariants.{Bytes, Gone}
 use Rattle.bitcask.specs.declared.entry.read.Read.{Read}
 use Rattle.bitcask.specs.declared.entry.read.Read.TheVariants.{Set, Del, Stop}
 use Rattle.bitcask.specs.entry.Length.{length_of}
@@ -45,9 +44,9 @@ both_stop : (b : Bool) → pick b Stop Stop ≡ Stop
 both_stop true = refl
 both_stop false = refl
 
-headed_size : (k : ℕ) (l : Len) → 8 + k ≤ size_read (headed k l)
-headed_size k (Bytes n) = omega arith
-headed_size k Gone = omega arith
+headed_size : (k : ℕ) (l : Option ℕ) → 8 + k ≤ size_read (headed k l)
+headed_size k (Some n) = omega arith
+headed_size k None = omega arith
 
 -- an announced entry has its header and its key at least
 pub head_size : (log : List ℕ) (at : ℕ) → 8 + word_at log at ≤ size_read (head_at log at)
@@ -74,23 +73,23 @@ module _ (log : List ℕ) (used at : ℕ) {k : ℕ} (ek : k ≡ word_at log at) 
   pub read_keyless : used < at + 8 + k → Stop ≡ entry_at log used at
   read_keyless h = sym (entry_cut log used at (omega (arith, head_size log at)))
 
-  module _ {w : ℕ} {l : Len} (ew : w ≡ word_at log (at + 4)) (el : l ≡ length_of w) where
+  module _ {w : ℕ} {l : Option ℕ} (ew : w ≡ word_at log (at + 4)) (el : l ≡ length_of w) where
     read_head : (r : Read) → headed k l ≡ r → r ≡ head_at log at
     unfolding head_at
     read_head r e = sym e ∙ rw (el, ew, ek)
 
-    pub read_cut : (n : ℕ) → l ≡ Bytes n → used < at + 8 + k + n → Stop ≡ entry_at log used at
+    pub read_cut : (n : ℕ) → l ≡ Some n → used < at + 8 + k + n → Stop ≡ entry_at log used at
     read_cut n e h =
         let s : 8 + k + n ≡ size_read (head_at log at) = ap size_read (read_head (Set k n) (rw e)) in
         sym (entry_cut log used at (omega arith))
 
-    pub read_set_lem : (n : ℕ) → l ≡ Bytes n → at + 8 + k + n ≤ used → Set k n ≡ entry_at log used at
+    pub read_set_lem : (n : ℕ) → l ≡ Some n → at + 8 + k + n ≤ used → Set k n ≡ entry_at log used at
     read_set_lem n e h =
         let q : Set k n ≡ head_at log at = read_head (Set k n) (rw e) in
         let s : 8 + k + n ≡ size_read (head_at log at) = ap size_read q in
         q ∙ sym (entry_whole log used at (omega arith))
 
-    pub read_del : l ≡ Gone → at + 8 + k ≤ used → Del k ≡ entry_at log used at
+    pub read_del : l ≡ None → at + 8 + k ≤ used → Del k ≡ entry_at log used at
     read_del e h =
         let q : Del k ≡ head_at log at = read_head (Del k) (rw e) in
         let s : 8 + k ≡ size_read (head_at log at) = ap size_read q in

@@ -3,13 +3,12 @@ use Prim.Native.Nat.{ℕ, zero, suc}
 use mathlib.Core.Path.{◌≡◌, refl, ap, ◌∙◌, subst}
 use mathlib.Core.List.{List, [], ◌∷◌, ◌++◌}
 use lib.ListN.{take, drop}
+use Rattle.std.specs.Prelude.{Result, ℕ, Ok, Err}
+use Rattle.std.specs.declared.cmp.Ordering.{Ordering}
+use Rattle.std.specs.declared.cmp.Ordering.TheVariants.{Less, Equal, Greater}
 use Rattle.keycode.specs.Order.{compare_bytes}
-use Rattle.keycode.specs.declared.order.Order.{Order}
-use Rattle.keycode.specs.declared.order.Order.TheVariants.{Less, Equal, Greater}
 use Rattle.keycode.proofs.OrderLaws.{flip, compare_flip, compare_trans, compare_equal}
 use Rattle.bitcask.specs.declared.keydir.slots.Slot.{Slot}
-use Rattle.bitcask.specs.declared.keydir.place.Found.{Found}
-use Rattle.bitcask.specs.declared.keydir.place.Found.TheVariants.{At, Before}
 use Rattle.bitcask.specs.keydir.Slots.{insert_at, replace_at, remove_at, key_of}
 use Rattle.bitcask.specs.keydir.Place.{by_order, further, place_in, put_at, cut_at, All, all_none, all_more, Sorted, sorted_none, sorted_more}
 
@@ -37,22 +36,22 @@ module _ {A : Type 0} {P : A → Type 0} where
   all-turn f (all_more {x = x} p r) = all_more (f x p) (all-turn f r)
 
 module _ {P : Slot → Type 0} (ss : List Slot) (a : All P ss) where
-  pub all-put : (s : Slot) (f : Found) → P s → All P (put_at s f ss)
+  pub all-put : (s : Slot) (f : Result ℕ ℕ) → P s → All P (put_at s f ss)
   unfolding replace_at insert_at
-  all-put s (At i) p = all_append (all_take a i) (all_more p (all_drop a (suc i)))
-  all-put s (Before i) p = all_append (all_take a i) (all_more p (all_drop a i))
+  all-put s (Ok i) p = all_append (all_take a i) (all_more p (all_drop a (suc i)))
+  all-put s (Err i) p = all_append (all_take a i) (all_more p (all_drop a i))
 
-  pub all_cut : (f : Found) → All P (cut_at f ss)
+  pub all_cut : (f : Result ℕ ℕ) → All P (cut_at f ss)
   unfolding remove_at
-  all_cut (At i) = all_append (all_take a i) (all_drop a (suc i))
-  all_cut (Before i) = a
+  all_cut (Ok i) = all_append (all_take a i) (all_drop a (suc i))
+  all_cut (Err i) = a
 
 -- ---- the keys rise
 
-put-further : (x s : Slot) (ss : List Slot) (f : Found) → put_at s (further f) (x ∷ ss) ≡ x ∷ put_at s f ss
+put-further : (x s : Slot) (ss : List Slot) (f : Result ℕ ℕ) → put_at s (further f) (x ∷ ss) ≡ x ∷ put_at s f ss
 unfolding replace_at insert_at
-put-further x s ss (At i) = refl
-put-further x s ss (Before i) = refl
+put-further x s ss (Ok i) = refl
+put-further x s ss (Err i) = refl
 
 module _ (log : List ℕ) where
   abbrev Over : List ℕ → Slot → Type 0
@@ -63,7 +62,7 @@ module _ (log : List ℕ) where
   over_less a b ss l q = all-turn (λ x h. compare_trans a b (key_of log x) l h) q
 
   module _ (s x : Slot) (ss : List Slot) (a : All (Over (key_of log x)) ss) (r : Sorted log ss) where
-    put_order : (o : Order) → compare_bytes (key_of log x) (key_of log s) ≡ o → (f : Found) → Sorted log (put_at s f ss) → Sorted log (put_at s (by_order o (further f) (At 0) (Before 0)) (x ∷ ss))
+    put_order : (o : Ordering) → compare_bytes (key_of log x) (key_of log s) ≡ o → (f : Result ℕ ℕ) → Sorted log (put_at s f ss) → Sorted log (put_at s (by_order o (further f) (Ok 0) (Err 0)) (x ∷ ss))
     unfolding replace_at insert_at
     put_order Less e f ih = rw (put-further x s ss f) (sorted_more (all-put ss a s f e) ih)
     put_order Equal e f ih = sorted_more (subst (λ (k : List ℕ). All (Over k) ss) (compare_equal (key_of log x) (key_of log s) e) a) r
@@ -84,9 +83,9 @@ module _ (log : List ℕ) where
   sorted_remove (x ∷ ss) zero (sorted_more a r) = r
   sorted_remove (x ∷ ss) (suc i) (sorted_more a r) = sorted_more (all_append (all_take a i) (all_drop a (suc i))) (sorted_remove ss i r)
 
-  pub sorted_cut : (ss : List Slot) (f : Found) → Sorted log ss → Sorted log (cut_at f ss)
-  sorted_cut ss (At i) q = sorted_remove ss i q
-  sorted_cut ss (Before i) q = q
+  pub sorted_cut : (ss : List Slot) (f : Result ℕ ℕ) → Sorted log ss → Sorted log (cut_at f ss)
+  sorted_cut ss (Ok i) q = sorted_remove ss i q
+  sorted_cut ss (Err i) q = q
 
 -- ---- another log in which the slots' keys are the same
 

@@ -9,9 +9,8 @@ use native.Mathlib.Omega.{arith}
 use lib.ListN.{length, drop, replicate, length-append, length-drop, length-replicate, replicate-append-replicate}
 use lib.Seq.{drop-append-add}
 use borrow.Author.Tests.{lt-ltb, le-ltb}
+use Rattle.std.specs.Prelude.{Result, ℕ, Ok, Err}
 use Rattle.bitcask.specs.declared.keydir.slots.Slot.{Slot}
-use Rattle.bitcask.specs.declared.keydir.place.Found.{Found}
-use Rattle.bitcask.specs.declared.keydir.place.Found.TheVariants.{At, Before}
 use Rattle.bitcask.specs.keydir.Slots.{slot_words, slots_of, words_of, table_of, insert_at, replace_at, remove_at}
 use Rattle.bitcask.specs.keydir.Place.{Among, All, count_of, put_at, cut_at, room_at, entered, laid, Becomes}
 use Rattle.bitcask.proofs.keydir.SlotLaws.{words-length, words-slots, slots-words, slots_length, insert_length, replace_length, remove_length}
@@ -25,26 +24,26 @@ laid-is n ss t z x e f = rw (e, f)
 
 -- ---- what the calls leave
 
-module _ (t : List ℕ) (n : ℕ) (f : Found) (i : ℕ) (room : slot_words * n ≤ length t) (a : Among n f) where
+module _ (t : List ℕ) (n : ℕ) (f : Result ℕ ℕ) (i : ℕ) (room : slot_words * n ≤ length t) (a : Among n f) where
   long : length (slots_of n t) ≡ n
   long = slots_length n t
 
   stays : Becomes t n (slots_of n t) t n
   stays = record { count = sym long; words = sym (words-slots n t room) ∙ laid-is n (slots_of n t) t 0 (slot_words * n) (omega (arith, long)) (omega (arith, long)) }
 
-  pub enter_at : (s : Slot) {y : List ℕ} → f ≡ At i → y ≡ words_of (replace_at i s (slots_of n t)) ++ drop (slot_words * n) t → Becomes t n (entered t s f (slots_of n t)) y n
+  pub enter_at : (s : Slot) {y : List ℕ} → f ≡ Ok i → y ≡ words_of (replace_at i s (slots_of n t)) ++ drop (slot_words * n) t → Becomes t n (entered t s f (slots_of n t)) y n
   unfolding entered
   enter_at s {y} e q =
       let h : i < n = rw e at a in
       let l : length (replace_at i s (slots_of n t)) ≡ n = replace_length i s (slots_of n t) (omega (arith, long)) ∙ long in
       rw e (record { count = sym l; words = q ∙ laid-is n (replace_at i s (slots_of n t)) t 0 (slot_words * n) (omega arith) (omega arith) })
 
-  pub enter_full : (s : Slot) → f ≡ Before i → length t / slot_words ≤ n → Becomes t n (entered t s f (slots_of n t)) t n
+  pub enter_full : (s : Slot) → f ≡ Err i → length t / slot_words ≤ n → Becomes t n (entered t s f (slots_of n t)) t n
   unfolding entered
   enter_full s e k =
       rw (e, long, le-ltb n (length t / slot_words) k) stays
 
-  pub enter_new : (s : Slot) {y : List ℕ} → f ≡ Before i → n < length t / slot_words
+  pub enter_new : (s : Slot) {y : List ℕ} → f ≡ Err i → n < length t / slot_words
       → y ≡ words_of (insert_at i s (slots_of n t)) ++ drop (slot_words * n + slot_words) t → Becomes t n (entered t s f (slots_of n t)) y (n + 1)
   unfolding entered
   enter_new s {y} e k q =
@@ -52,13 +51,13 @@ module _ (t : List ℕ) (n : ℕ) (f : Found) (i : ℕ) (room : slot_words * n �
       let l : length (insert_at i s (slots_of n t)) ≡ n + 1 = insert_length i s (slots_of n t) (omega (arith, long)) ∙ ap (λ (x : ℕ). x + 1) long in
       rw (e, long, lt-ltb n (length t / slot_words) k) (record { count = sym l; words = q ∙ laid-is n (insert_at i s (slots_of n t)) t 0 (slot_words * n + slot_words) (omega arith) (omega arith) })
 
-  pub leave_at : {y : List ℕ} → f ≡ At i → y ≡ words_of (remove_at i (slots_of n t)) ++ (replicate slot_words 0 ++ drop (slot_words * n) t) → Becomes t n (cut_at f (slots_of n t)) y (n - 1)
+  pub leave_at : {y : List ℕ} → f ≡ Ok i → y ≡ words_of (remove_at i (slots_of n t)) ++ (replicate slot_words 0 ++ drop (slot_words * n) t) → Becomes t n (cut_at f (slots_of n t)) y (n - 1)
   leave_at {y} e q =
       let h : i < n = rw e at a in
       let l : length (remove_at i (slots_of n t)) ≡ n - 1 = remove_length i (slots_of n t) (omega (arith, long)) ∙ ap (λ (x : ℕ). x - 1) long in
       rw e (record { count = sym l; words = q ∙ laid-is n (remove_at i (slots_of n t)) t slot_words (slot_words * n) (omega arith) (omega arith) })
 
-  pub leave_none : f ≡ Before i → Becomes t n (cut_at f (slots_of n t)) t n
+  pub leave_none : f ≡ Err i → Becomes t n (cut_at f (slots_of n t)) t n
   leave_none e = rw e stays
 
 -- ---- the table then
@@ -73,7 +72,7 @@ module _ (n : ℕ) (ss : List Slot) (t : List ℕ) where
   laid-length h k = simp (length-append, words-length, length-replicate, length-drop) (omega arith)
 
 -- what is put in is in where there is room, and nothing changes where there is none
-module _ (t : List ℕ) (s : Slot) (f : Found) (ss : List Slot) where
+module _ (t : List ℕ) (s : Slot) (f : Result ℕ ℕ) (ss : List Slot) where
   pub entered-room : room_at t f ss ≡ true → entered t s f ss ≡ put_at s f ss
   unfolding entered
   entered-room e = rw e
@@ -83,24 +82,24 @@ module _ (t : List ℕ) (s : Slot) (f : Found) (ss : List Slot) where
   entered-full e = rw e
 
 -- the slots stay within the table
-module _ (t : List ℕ) (f : Found) (ss : List Slot) (room : slot_words * length ss ≤ length t) (a : Among (length ss) f) where
+module _ (t : List ℕ) (f : Result ℕ ℕ) (ss : List Slot) (room : slot_words * length ss ≤ length t) (a : Among (length ss) f) where
   pub entered-within : (s : Slot) → slot_words * length (entered t s f ss) ≤ length t
   entered-within s = entered_on f a
     where
-      entered_on : (g : Found) → Among (length ss) g → slot_words * length (entered t s g ss) ≤ length t
-      entered_on (At i) q = rw (entered-room t s (At i) ss refl, replace_length i s ss q) room
-      entered_on (Before i) q =
+      entered_on : (g : Result ℕ ℕ) → Among (length ss) g → slot_words * length (entered t s g ss) ≤ length t
+      entered_on (Ok i) q = rw (entered-room t s (Ok i) ss refl, replace_length i s ss q) room
+      entered_on (Err i) q =
           elim (dec_lt (length ss) (length t / slot_words)) [
-            | yes h ↦ rw (entered-room t s (Before i) ss (lt-ltb (length ss) (length t / slot_words) h), insert_length i s ss q) (omega arith)
-            | no h ↦ rw (entered-full t s (Before i) ss (le-ltb (length ss) (length t / slot_words) (omega arith))) room
+            | yes h ↦ rw (entered-room t s (Err i) ss (lt-ltb (length ss) (length t / slot_words) h), insert_length i s ss q) (omega arith)
+            | no h ↦ rw (entered-full t s (Err i) ss (le-ltb (length ss) (length t / slot_words) (omega arith))) room
           ]
 
   pub cut_within : slot_words * length (cut_at f ss) ≤ length t
   cut_within = cut_on f a
     where
-      cut_on : (g : Found) → Among (length ss) g → slot_words * length (cut_at g ss) ≤ length t
-      cut_on (At i) q = rw (remove_length i ss q) (omega arith)
-      cut_on (Before i) q = room
+      cut_on : (g : Result ℕ ℕ) → Among (length ss) g → slot_words * length (cut_at g ss) ≤ length t
+      cut_on (Ok i) q = rw (remove_length i ss q) (omega arith)
+      cut_on (Err i) q = room
 
 -- ---- tables of slots and zeros
 

@@ -3,19 +3,17 @@
 use Prim.Native.Nat.{ℕ, zero, suc, ◌+◌, ◌≤◌}
 use mathlib.Core.Path.{◌≡◌, refl, sym, ap, ◌∙◌, subst}
 use mathlib.Core.Bool.{Bool, true, false}
-use mathlib.Core.Option.{Option, none, some}
 use mathlib.Core.List.{List, [], ◌∷◌, ◌++◌}
 use native.Mathlib.Omega.{arith}
 use lib.ListN.{length, take, drop}
-use Rattle.keycode.specs.declared.order.Order.{Order}
-use Rattle.keycode.specs.declared.order.Order.TheVariants.{Less, Equal, Greater}
+use Rattle.std.specs.Prelude.{Result, ℕ, Ok, Err, Option, None, Some}
+use Rattle.std.specs.declared.cmp.Ordering.{Ordering}
+use Rattle.std.specs.declared.cmp.Ordering.TheVariants.{Less, Equal, Greater}
 use Rattle.keycode.specs.Tests.{pick}
 use Rattle.keycode.specs.Order.{compare_bytes}
 use Rattle.keycode.proofs.Basics.{nope}
 use Rattle.keycode.proofs.OrderLaws.{compare_refl, compare_equal, compare_trans}
 use Rattle.bitcask.specs.declared.keydir.slots.Slot.{Slot}
-use Rattle.bitcask.specs.declared.keydir.place.Found.{Found}
-use Rattle.bitcask.specs.declared.keydir.place.Found.TheVariants.{At, Before}
 use Rattle.bitcask.specs.keydir.Slots.{insert_at, key_of}
 use Rattle.bitcask.specs.keydir.Place.{place_in, index_of, put_at, cut_at, All, all_none, all_more, Sorted, sorted_none, sorted_more}
 use Rattle.bitcask.proofs.keydir.SlotLaws.{insert_length}
@@ -58,11 +56,11 @@ module _ (log : List ℕ) where
 
   -- ---- the slots before and behind a place
 
-  under_on : (k : List ℕ) (x : Slot) (ss : List Slot) (o : Order) → compare_bytes (key_of log x) k ≡ o → Under k (take (index_of (place_in log k ss)) ss) → (f : Found) → place_in log k ss ≡ f
+  under_on : (k : List ℕ) (x : Slot) (ss : List Slot) (o : Ordering) → compare_bytes (key_of log x) k ≡ o → Under k (take (index_of (place_in log k ss)) ss) → (f : Result ℕ ℕ) → place_in log k ss ≡ f
       → Under k (take (index_of (place_in log k (x ∷ ss))) (x ∷ ss))
   unfolding place_in
-  under_on k x ss Less e ih (At i) p = rw (e, p) (all_more e (rw p at ih))
-  under_on k x ss Less e ih (Before i) p = rw (e, p) (all_more e (rw p at ih))
+  under_on k x ss Less e ih (Ok i) p = rw (e, p) (all_more e (rw p at ih))
+  under_on k x ss Less e ih (Err i) p = rw (e, p) (all_more e (rw p at ih))
   under_on k x ss Equal e ih f p = rw e all_none
   under_on k x ss Greater e ih f p = rw e all_none
 
@@ -72,11 +70,11 @@ module _ (log : List ℕ) where
   place_under k (x ∷ ss) = under_on k x ss (compare_bytes (key_of log x) k) refl (place_under k ss) (place_in log k ss) refl
 
   module _ (y k : List ℕ) (h : compare_bytes y k ≡ Less) where
-    over_on : (x : Slot) (ss : List Slot) (o : Order) → compare_bytes (key_of log x) k ≡ o → Over log (key_of log x) ss → Over log y (drop (index_of (place_in log k ss)) ss)
-        → (f : Found) → place_in log k ss ≡ f → Over log y (drop (index_of (place_in log k (x ∷ ss))) (x ∷ ss))
+    over_on : (x : Slot) (ss : List Slot) (o : Ordering) → compare_bytes (key_of log x) k ≡ o → Over log (key_of log x) ss → Over log y (drop (index_of (place_in log k ss)) ss)
+        → (f : Result ℕ ℕ) → place_in log k ss ≡ f → Over log y (drop (index_of (place_in log k (x ∷ ss))) (x ∷ ss))
     unfolding place_in
-    over_on x ss Less e a ih (At i) p = rw (e, p) (rw p at ih)
-    over_on x ss Less e a ih (Before i) p = rw (e, p) (rw p at ih)
+    over_on x ss Less e a ih (Ok i) p = rw (e, p) (rw p at ih)
+    over_on x ss Less e a ih (Err i) p = rw (e, p) (rw p at ih)
     over_on x ss Equal e a ih f p =
         let q : compare_bytes y (key_of log x) ≡ Less = subst (λ (z : List ℕ). compare_bytes y z ≡ Less) (sym (compare_equal (key_of log x) k e)) h in
         rw e (all_more q (over-trans log y (key_of log x) q a))
@@ -104,12 +102,12 @@ module _ (log : List ℕ) where
 
   -- ---- slots put in before greater ones
 
-  place-first : (k : List ℕ) (back : List Slot) → Over log k back → place_in log k back ≡ Before 0
+  place-first : (k : List ℕ) (back : List Slot) → Over log k back → place_in log k back ≡ Err 0
   unfolding place_in
   place-first k [] a = refl
   place-first k (x ∷ back) (all_more e a) = rw (less_greater k (key_of log x) e)
 
-  place_on : (k : List ℕ) (x : Slot) (o : Order) → compare_bytes (key_of log x) k ≡ o → (front back : List Slot) → place_in log k (front ++ back) ≡ place_in log k front
+  place_on : (k : List ℕ) (x : Slot) (o : Ordering) → compare_bytes (key_of log x) k ≡ o → (front back : List Slot) → place_in log k (front ++ back) ≡ place_in log k front
       → place_in log k (x ∷ front ++ back) ≡ place_in log k (x ∷ front)
   unfolding place_in
   place_on k x Less e front back ih = rw (e, ih)
@@ -175,12 +173,12 @@ module _ (log : List ℕ) where
   cuts-sorted (p ∷ ps) ss s = cuts-sorted ps (cut_at (place_in log (key_of log p) ss) ss) (sorted_cut log ss (place_in log (key_of log p) ss) s)
 
   -- a key that is not there is not put there
-  cut_none : (k j : List ℕ) (ss : List Slot) → Sorted log ss → look log k ss ≡ none → (o : Order) → compare_bytes j k ≡ o → look log k (cut_at (place_in log j ss) ss) ≡ none
+  cut_none : (k j : List ℕ) (ss : List Slot) → Sorted log ss → look log k ss ≡ None → (o : Ordering) → compare_bytes j k ≡ o → look log k (cut_at (place_in log j ss) ss) ≡ None
   cut_none k j ss s h Less e = cut_other log k j (λ q. nope (cc (ap (λ (z : List ℕ). compare_bytes z k) q, compare_refl k))) ss s ∙ h
-  cut_none k j ss s h Equal e = subst (λ (z : List ℕ). look log k (cut_at (place_in log z ss) ss) ≡ none) (sym (compare_equal j k e)) (cut_own log k ss s)
+  cut_none k j ss s h Equal e = subst (λ (z : List ℕ). look log k (cut_at (place_in log z ss) ss) ≡ None) (sym (compare_equal j k e)) (cut_own log k ss s)
   cut_none k j ss s h Greater e = cut_other log k j (λ q. nope (cc (ap (λ (z : List ℕ). compare_bytes z k) q, compare_refl k))) ss s ∙ h
 
-  cuts-none : (k : List ℕ) (ps ss : List Slot) → Sorted log ss → look log k ss ≡ none → look log k (cuts log ps ss) ≡ none
+  cuts-none : (k : List ℕ) (ps ss : List Slot) → Sorted log ss → look log k ss ≡ None → look log k (cuts log ps ss) ≡ None
   unfolding cuts
   cuts-none k [] ss s h = h
   cuts-none k (p ∷ ps) ss s h =
@@ -188,7 +186,7 @@ module _ (log : List ℕ) where
       (cut_none k (key_of log p) ss s h (compare_bytes (key_of log p) k) refl)
 
   abbrev pub Absent : List Slot → List Slot → Type 0
-  Absent ps ss = All (λ (p : Slot). look log (key_of log p) ss ≡ none) ps
+  Absent ps ss = All (λ (p : Slot). look log (key_of log p) ss ≡ None) ps
 
   pub cuts_absent : (ps ss : List Slot) → Sorted log ss → Absent ps (cuts log ps ss)
   unfolding cuts
@@ -199,10 +197,10 @@ module _ (log : List ℕ) where
       all_more (cuts-none (key_of log p) ps ss' s' (cut_own log (key_of log p) ss s)) (cuts_absent ps ss' s')
 
   abbrev without : Option Slot → Option Slot → Option Slot
-  without none o = o
-  without (some s) o = none
+  without None o = o
+  without (Some s) o = None
 
-  cuts_look_on : (k : List ℕ) (p : Slot) (ps ss : List Slot) (o : Order) → compare_bytes (key_of log p) k ≡ o → Over log (key_of log p) ps → Sorted log ss
+  cuts_look_on : (k : List ℕ) (p : Slot) (ps ss : List Slot) (o : Ordering) → compare_bytes (key_of log p) k ≡ o → Over log (key_of log p) ps → Sorted log ss
       → look log k (cuts log ps (cut_at (place_in log (key_of log p) ss) ss)) ≡ without (look log k ps) (look log k (cut_at (place_in log (key_of log p) ss) ss))
       → look log k (cuts log ps (cut_at (place_in log (key_of log p) ss) ss)) ≡ without (look log k (p ∷ ps)) (look log k ss)
   unfolding look
@@ -210,11 +208,11 @@ module _ (log : List ℕ) where
       rw e (ih ∙ ap (without (look log k ps)) (cut_other log k (key_of log p) (λ q. nope (cc (ap (λ (z : List ℕ). compare_bytes z k) q, compare_refl k))) ss s))
   cuts_look_on k p ps ss Equal e a s ih =
       let q = compare_equal (key_of log p) k e in
-      let h : look log k (cut_at (place_in log (key_of log p) ss) ss) ≡ none = subst (λ (z : List ℕ). look log z (cut_at (place_in log (key_of log p) ss) ss) ≡ none) q
+      let h : look log k (cut_at (place_in log (key_of log p) ss) ss) ≡ None = subst (λ (z : List ℕ). look log z (cut_at (place_in log (key_of log p) ss) ss) ≡ None) q
       (cut_own log (key_of log p) ss s) in
       rw e (cuts-none k ps (cut_at (place_in log (key_of log p) ss) ss) (sorted_cut log ss (place_in log (key_of log p) ss) s) h)
   cuts_look_on k p ps ss Greater e a s ih =
-      let z : look log k ps ≡ none = over-look log k (over-trans log k (key_of log p) (greater_less (key_of log p) k e) a) in
+      let z : look log k ps ≡ None = over-look log k (over-trans log k (key_of log p) (greater_less (key_of log p) k e) a) in
       let i = rw z at ih in
       rw e (i ∙ cut_other log k (key_of log p) (λ q. nope (cc (ap (λ (y : List ℕ). compare_bytes y k) q, compare_refl k))) ss s)
 
@@ -228,11 +226,11 @@ module _ (log : List ℕ) where
   -- ---- and after the new ones were put in
 
   -- where a key is not there, putting its slot in is laying it
-  insert_is_put : (p : Slot) (ss : List Slot) (f : Found) → place_in log (key_of log p) ss ≡ f → look log (key_of log p) ss ≡ none → insert_at (index_of f) p ss ≡ put_at p f ss
-  insert_is_put p ss (At i) e h = nope (cc (look-place log (key_of log p) ss, ap (slot_by log ss) e))
-  insert_is_put p ss (Before i) e h = refl
+  insert_is_put : (p : Slot) (ss : List Slot) (f : Result ℕ ℕ) → place_in log (key_of log p) ss ≡ f → look log (key_of log p) ss ≡ None → insert_at (index_of f) p ss ≡ put_at p f ss
+  insert_is_put p ss (Ok i) e h = nope (cc (look-place log (key_of log p) ss, ap (slot_by log ss) e))
+  insert_is_put p ss (Err i) e h = refl
 
-  lay_new : (p : Slot) (ss : List Slot) → is_gone p ≡ false → look log (key_of log p) ss ≡ none → lay log p ss ≡ put_at p (place_in log (key_of log p) ss) ss
+  lay_new : (p : Slot) (ss : List Slot) → is_gone p ≡ false → look log (key_of log p) ss ≡ None → lay log p ss ≡ put_at p (place_in log (key_of log p) ss) ss
   unfolding lay
   lay_new p ss e h = rw e (insert_is_put p ss (place_in log (key_of log p) ss) refl h)
 
@@ -240,29 +238,29 @@ module _ (log : List ℕ) where
   unfolding lay
   lay-gone p ss e = rw e
 
-  lays_look_on : (k : List ℕ) (p : Slot) (ps ss : List Slot) (o : Order) → compare_bytes (key_of log p) k ≡ o → (b : Bool) → is_gone p ≡ b → Over log (key_of log p) ps
-      → look log (key_of log p) ss ≡ none → look log (key_of log p) (lays log ps ss) ≡ none
+  lays_look_on : (k : List ℕ) (p : Slot) (ps ss : List Slot) (o : Ordering) → compare_bytes (key_of log p) k ≡ o → (b : Bool) → is_gone p ≡ b → Over log (key_of log p) ps
+      → look log (key_of log p) ss ≡ None → look log (key_of log p) (lays log ps ss) ≡ None
       → look log k (lays log ps ss) ≡ overlay (look log k ps) (look log k ss) → look log k (lay log p (lays log ps ss)) ≡ overlay (look log k (p ∷ ps)) (look log k ss)
   unfolding look
   lays_look_on k p ps ss Less e true g a h m ih = rw (e, lay-gone p (lays log ps ss) g) ih
   lays_look_on k p ps ss Less e false g a h m ih =
       rw (e, lay_new p (lays log ps ss) g m) (put_other log k p (λ q. nope (cc (ap (λ (z : List ℕ). compare_bytes z k) q, compare_refl k))) (lays log ps ss) ∙ ih)
   lays_look_on k p ps ss Equal e true g a h m ih =
-      rw (e, lay-gone p (lays log ps ss) g, g) (subst (λ (z : List ℕ). look log z (lays log ps ss) ≡ none) (compare_equal (key_of log p) k e) m)
+      rw (e, lay-gone p (lays log ps ss) g, g) (subst (λ (z : List ℕ). look log z (lays log ps ss) ≡ None) (compare_equal (key_of log p) k e) m)
   lays_look_on k p ps ss Equal e false g a h m ih =
-      rw (e, lay_new p (lays log ps ss) g m, g) (subst (λ (z : List ℕ). look log z (put_at p (place_in log (key_of log p) (lays log ps ss)) (lays log ps ss)) ≡ some p)
+      rw (e, lay_new p (lays log ps ss) g m, g) (subst (λ (z : List ℕ). look log z (put_at p (place_in log (key_of log p) (lays log ps ss)) (lays log ps ss)) ≡ Some p)
       (compare_equal (key_of log p) k e) (put_own log p (lays log ps ss)))
   lays_look_on k p ps ss Greater e true g a h m ih =
-      let z : look log k ps ≡ none = over-look log k (over-trans log k (key_of log p) (greater_less (key_of log p) k e) a) in
+      let z : look log k ps ≡ None = over-look log k (over-trans log k (key_of log p) (greater_less (key_of log p) k e) a) in
       let i = rw z at ih in
       rw (e, lay-gone p (lays log ps ss) g) i
   lays_look_on k p ps ss Greater e false g a h m ih =
-      let z : look log k ps ≡ none = over-look log k (over-trans log k (key_of log p) (greater_less (key_of log p) k e) a) in
+      let z : look log k ps ≡ None = over-look log k (over-trans log k (key_of log p) (greater_less (key_of log p) k e) a) in
       let i = rw z at ih in
       rw (e, lay_new p (lays log ps ss) g m) (put_other log k p (λ q. nope (cc (ap (λ (y : List ℕ). compare_bytes y k) q, compare_refl k))) (lays log ps ss) ∙ i)
 
   -- a key over which the waiting ones are, and that is not there
-  lays-none : (k : List ℕ) (ps ss : List Slot) → Over log k ps → look log k ss ≡ none → look log k (lays log ps ss) ≡ overlay (look log k ps) (look log k ss) → look log k (lays log ps ss) ≡ none
+  lays-none : (k : List ℕ) (ps ss : List Slot) → Over log k ps → look log k ss ≡ None → look log k (lays log ps ss) ≡ overlay (look log k ps) (look log k ss) → look log k (lays log ps ss) ≡ None
   lays-none k ps ss a h e = e ∙ rw (over-look log k a, h)
 
   lays-look : (ps ss : List Slot) → Sorted log ps → Absent ps ss → (k : List ℕ) → look log k (lays log ps ss) ≡ overlay (look log k ps) (look log k ss)
@@ -278,13 +276,13 @@ module _ (log : List ℕ) where
   lays-sorted (p ∷ ps) ss (sorted_more u q) (all_more h a) s =
       go (is_gone p) refl (lays-sorted ps ss q a s) (lays-none (key_of log p) ps ss u h (lays-look ps ss q a (key_of log p)))
     where
-      go : (b : Bool) → is_gone p ≡ b → Sorted log (lays log ps ss) → look log (key_of log p) (lays log ps ss) ≡ none → Sorted log (lay log p (lays log ps ss))
+      go : (b : Bool) → is_gone p ≡ b → Sorted log (lays log ps ss) → look log (key_of log p) (lays log ps ss) ≡ None → Sorted log (lay log p (lays log ps ss))
       go true g r m = rw (lay-gone p (lays log ps ss) g) r
       go false g r m = rw (lay_new p (lays log ps ss) g m) (sorted-put log p (lays log ps ss) r)
 
   overlay_twice : (a o : Option Slot) → overlay a (without a o) ≡ overlay a o
-  overlay_twice none o = refl
-  overlay_twice (some s) o = refl
+  overlay_twice None o = refl
+  overlay_twice (Some s) o = refl
 
   -- ---- the two passes
 

@@ -6,11 +6,10 @@ use mathlib.Core.List.{List, [], ◌∷◌, ◌++◌, append_assoc, append-nil}
 use native.Mathlib.Omega.{arith}
 use lib.ListN.{length, take, drop, get_or, replicate, length-append, length-take, length-drop, length-replicate}
 use lib.Seq.{slice, drop-cons, drop-drop, drop-length, take_all}
+use Rattle.std.specs.Prelude.{Result, ℕ, Ok, Err}
 use Rattle.keycode.specs.Buffer.{put}
 use Rattle.keycode.proofs.BufferLaws.{length-put}
 use Rattle.bitcask.specs.declared.keydir.slots.Slot.{Slot}
-use Rattle.bitcask.specs.declared.keydir.place.Found.{Found}
-use Rattle.bitcask.specs.declared.keydir.place.Found.TheVariants.{At, Before}
 use Rattle.bitcask.specs.keydir.Words.{copied}
 use Rattle.bitcask.specs.keydir.Slots.{slot_words, free_slot, slots_of, words_of, remove_at, key_of}
 use Rattle.bitcask.specs.keydir.Place.{place_of, place_in, Sorted, sorted_more, laid, Becomes}
@@ -26,7 +25,7 @@ use Rattle.bitcask.proofs.merging.PartLaws.{slots_at, words-front, slots-take, b
 -- ---- one slot taken out
 
 -- the search looks at the part of the table behind the gap
-pub part_place : (log t : List ℕ) (n from : ℕ) (key : List ℕ) {f : Found}
+pub part_place : (log t : List ℕ) (n from : ℕ) (key : List ℕ) {f : Result ℕ ℕ}
     → f ≡ place_of log key (slots_of (n - from) (take (length t - slot_words * from) (drop (slot_words * from) t))) → f ≡ place_of log key (behind t from n)
 unfolding behind
 part_place log t n from key e = e
@@ -36,15 +35,15 @@ part_place log t n from key e = e
           (slot_words * from) t,
     )))
 
-module _ (log t : List ℕ) (n to from : ℕ) (key : List ℕ) (order : to ≤ from) (within : from ≤ n) (room : slot_words * n ≤ length t) {f : Found} (ef : f ≡ place_of log key (behind t from n)) where
-  pub one_within : (j : ℕ) → f ≡ At j → from + j < n
+module _ (log t : List ℕ) (n to from : ℕ) (key : List ℕ) (order : to ≤ from) (within : from ≤ n) (room : slot_words * n ≤ length t) {f : Result ℕ ℕ} (ef : f ≡ place_of log key (behind t from n)) where
+  pub one_within : (j : ℕ) → f ≡ Ok j → from + j < n
   one_within j e =
       let a = among-at (length (behind t from n)) (place_of log key (behind t from n)) j (place-among log key (behind t from n)) (sym ef ∙ e) in
       omega (arith, behind-length t from n)
 
-  pub one_stays : (j : ℕ) → f ≡ Before j → TakesOne log t n to from key to from t
+  pub one_stays : (j : ℕ) → f ≡ Err j → TakesOne log t n to from key to from t
   one_stays j e =
-      let q : place_of log key (behind t from n) ≡ Before j = sym ef ∙ e in
+      let q : place_of log key (behind t from n) ≡ Err j = sym ef ∙ e in
       record {
         long = refl;
         order = order;
@@ -55,8 +54,8 @@ module _ (log t : List ℕ) (n to from : ℕ) (key : List ℕ) (order : to ≤ f
         after = refl;
       }
 
-  module _ (j : ℕ) (e : f ≡ At j) {y : List ℕ} (ey : y ≡ copied t (slot_words * from) (slot_words * from + slot_words * j) (slot_words * to)) where
-    q : place_of log key (behind t from n) ≡ At j
+  module _ (j : ℕ) (e : f ≡ Ok j) {y : List ℕ} (ey : y ≡ copied t (slot_words * from) (slot_words * from + slot_words * j) (slot_words * to)) where
+    q : place_of log key (behind t from n) ≡ Ok j
     q = sym ef ∙ e
 
     moved : slice (slot_words * from) (slot_words * from + slot_words * j) t ≡ words_of (take j (behind t from n))
@@ -134,12 +133,12 @@ behind-same t x from n e h = ap (slots_of (n - from)) e ∙ behind-is t from n h
 
 -- a turn, on slots
 module _ (log : List ℕ) (p : Slot) (ps rest : List Slot) (s : Sorted log rest) where
-  cuts_turn_on : (f : Found) → place_in log (key_of log p) rest ≡ f → Sorted log (p ∷ ps) → cuts log (p ∷ ps) rest ≡ take (kept_by f) rest ++ cuts log ps (drop (passed_by f) rest)
+  cuts_turn_on : (f : Result ℕ ℕ) → place_in log (key_of log p) rest ≡ f → Sorted log (p ∷ ps) → cuts log (p ∷ ps) rest ≡ take (kept_by f) rest ++ cuts log ps (drop (passed_by f) rest)
   unfolding cuts remove_at
-  cuts_turn_on (At j) e (sorted_more a q) =
+  cuts_turn_on (Ok j) e (sorted_more a q) =
       let u : Under log (key_of log p) (take j rest) = rw e at (place_under log (key_of log p) rest) in
       rw e (cuts-behind log ps (take j rest) (drop (suc j) rest) (all-turn (λ x h. under_trans log (key_of log p) (key_of log x) h u) a))
-  cuts_turn_on (Before j) e q = rw e
+  cuts_turn_on (Err j) e q = rw e
 
   cuts-turn : Sorted log (p ∷ ps) → cuts log (p ∷ ps) rest ≡ take (kept_by (place_of log (key_of log p) rest)) rest ++ cuts log ps (drop (passed_by (place_of log (key_of log p) rest)) rest)
   cuts-turn q = rw (place-sorted log (key_of log p) rest s) (cuts_turn_on (place_in log (key_of log p) rest) refl q)
@@ -168,7 +167,7 @@ module _ {log t : List ℕ} {n : ℕ} {ps : List Slot} {x : List ℕ} {to from p
       exactly so q =
           let r : List Slot = behind x from n in
           let fr : from ≤ from' = omega (arith, v.passed) in
-          let f : Found = place_of log key r in
+          let f : (Result ℕ ℕ) = place_of log key r in
           let sr : Sorted log r = subst (λ (z : List Slot). Sorted log z) (sym (behind-same t x from n w.after w.within)) (sorted-drop log from so) in
           let dp : drop p ps ≡ get_or ps p free_slot ∷ drop (suc p) ps = drop-cons ps p free_slot h in
           let sp : Sorted log (get_or ps p free_slot ∷ drop (suc p) ps) = subst (λ (z : List Slot). Sorted log z) dp (sorted-drop log p q) in

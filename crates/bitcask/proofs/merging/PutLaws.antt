@@ -7,11 +7,11 @@ use mathlib.Core.List.{List, [], ◌∷◌, ◌++◌, append_assoc, append-nil}
 use native.Mathlib.Omega.{arith}
 use lib.ListN.{length, take, drop, get_or, length-drop, take-append-drop}
 use lib.Seq.{slice, take-suc, take-length}
+use Rattle.std.specs.Prelude.{Result, ℕ}
 use Rattle.keycode.specs.Buffer.{put}
 use Rattle.keycode.specs.Tests.{pick}
 use Rattle.keycode.proofs.BufferLaws.{length-put}
 use Rattle.bitcask.specs.declared.keydir.slots.Slot.{Slot}
-use Rattle.bitcask.specs.declared.keydir.place.Found.{Found}
 use Rattle.bitcask.specs.keydir.Words.{copied}
 use Rattle.bitcask.specs.keydir.Slots.{slot_words, free_slot, slot_at, slots_of, words_of, insert_at, key_of}
 use Rattle.bitcask.specs.keydir.Place.{place_of, place_in, index_of, all_more, Sorted}
@@ -79,7 +79,7 @@ module _ (log t : List ℕ) (end left : ℕ) (s : Slot) where
     back = rw e;
   }
 
-  module _ (g : is_gone s ≡ false) (some : 0 < left) (h : slot_words * (end + left) ≤ length t) {key : List ℕ} {f : Found} {j : ℕ} (ek : key ≡ key_of log s)
+  module _ (g : is_gone s ≡ false) (some : 0 < left) (h : slot_words * (end + left) ≤ length t) {key : List ℕ} {f : Result ℕ ℕ} {j : ℕ} (ek : key ≡ key_of log s)
       (ef : f ≡ place_of log key (slots_of end t)) (ej : j ≡ index_of f) where
     pub next-within : j ≤ end
     next-within =

@@ -3,9 +3,8 @@ use Prim.Native.Nat.{ℕ, ◌+◌, ◌≤◌, ◌<◌}
 use mathlib.Core.Path.{◌≡◌, sym, ◌∙◌}
 use mathlib.Core.List.{List}
 use native.Mathlib.Omega.{arith}
+use Rattle.std.specs.Prelude.{Result, ℕ, Ok, Err}
 use Rattle.bitcask.specs.declared.keydir.slots.Slot.{Slot}
-use Rattle.bitcask.specs.declared.keydir.place.Found.{Found}
-use Rattle.bitcask.specs.declared.keydir.place.Found.TheVariants.{At, Before}
 use Rattle.bitcask.specs.keydir.Slots.{slots_of}
 use Rattle.bitcask.specs.keydir.Place.{place_of}
 use Rattle.bitcask.proofs.keydir.SlotLaws.{slots_length}
@@ -14,27 +13,27 @@ use Rattle.bitcask.specs.declared.answers.Bound.{Bound}
 use Rattle.bitcask.specs.declared.answers.Bound.TheVariants.{Included, Excluded, Unbounded}
 use Rattle.bitcask.specs.read.Ranks.{below, upto, from_bound, upto_bound}
 
-module _ (log key t : List ℕ) (n : ℕ) (f : Found) (says : f ≡ place_of log key (slots_of n t)) where
+module _ (log key t : List ℕ) (n : ℕ) (f : Result ℕ ℕ) (says : f ≡ place_of log key (slots_of n t)) where
   module _ (i : ℕ) where
-    pub found_at : f ≡ At i → i < n
+    pub found_at : f ≡ Ok i → i < n
     found_at e = omega (arith, slots_length n t, place_at log key (slots_of n t) i (sym says ∙ e))
 
-    found_before : f ≡ Before i → i ≤ n
+    found_before : f ≡ Err i → i ≤ n
     found_before e = omega (arith, slots_length n t, place-before log key (slots_of n t) i (sym says ∙ e))
 
-    pub below_at : f ≡ At i → (i ≡ below log key (slots_of n t)) × (i ≤ n)
+    pub below_at : f ≡ Ok i → (i ≡ below log key (slots_of n t)) × (i ≤ n)
     unfolding below
     below_at e = let h = found_at e in (rw (← says, e), omega arith)
 
-    pub below-before : f ≡ Before i → (i ≡ below log key (slots_of n t)) × (i ≤ n)
+    pub below-before : f ≡ Err i → (i ≡ below log key (slots_of n t)) × (i ≤ n)
     unfolding below
     below-before e = (rw (← says, e), found_before e)
 
-    pub upto-at : f ≡ At i → (i + 1 ≡ upto log key (slots_of n t)) × (i + 1 ≤ n)
+    pub upto-at : f ≡ Ok i → (i + 1 ≡ upto log key (slots_of n t)) × (i + 1 ≤ n)
     unfolding upto
     upto-at e = let h = found_at e in (rw (← says, e), omega arith)
 
-    pub upto_before : f ≡ Before i → (i ≡ upto log key (slots_of n t)) × (i ≤ n)
+    pub upto_before : f ≡ Err i → (i ≡ upto log key (slots_of n t)) × (i ≤ n)
     unfolding upto
     upto_before e = (rw (← says, e), found_before e)
 

@@ -3,20 +3,18 @@
 use Prim.Native.Nat.{ℕ, suc, ◌+◌, ◌≤◌, ◌<◌, max}
 use mathlib.Core.Path.{◌≡◌, refl, sym, ap, ◌∙◌}
 use mathlib.Core.Bool.{Bool, true, false}
-use mathlib.Core.Option.{none, some}
 use mathlib.Core.List.{List, [], ◌∷◌}
 use native.Mathlib.Decide.{dec_lt, dec_le}
 use native.Mathlib.Omega.{arith}
 use lib.Dec.{leb, ltb}
 use lib.ListN.{length, get_or}
 use borrow.Author.Tests.{le-leb, lt-leb, lt-ltb, le-ltb}
+use Rattle.std.specs.Prelude.{Result, ℕ, Ok, Err, None, Some}
+use Rattle.std.specs.declared.cmp.Ordering.{Ordering}
+use Rattle.std.specs.declared.cmp.Ordering.TheVariants.{Less, Equal, Greater}
 use Rattle.keycode.specs.Tests.{pick}
-use Rattle.keycode.specs.declared.order.Order.{Order}
-use Rattle.keycode.specs.declared.order.Order.TheVariants.{Less, Equal, Greater}
 use Rattle.keycode.proofs.Basics.{Ordered, below as lower, same, above, ordered}
 use Rattle.bitcask.specs.declared.keydir.slots.Slot.{Slot}
-use Rattle.bitcask.specs.declared.keydir.place.Found.{Found}
-use Rattle.bitcask.specs.declared.keydir.place.Found.TheVariants.{At, Before}
 use Rattle.bitcask.specs.keydir.Slots.{free_slot, key_of}
 use Rattle.bitcask.specs.keydir.Place.{order_at, place_of, place_in, Sorted}
 use Rattle.bitcask.proofs.keydir.HalveLaws.{Spot}
@@ -28,23 +26,23 @@ use Rattle.bitcask.specs.read.Ranks.{before_at, through_at, below, upto, from_bo
 
 -- ---- the order at a number, by the ranks of a key
 
-pub data Where (o : Order) (lo hi j : ℕ) : Type 0 where
+pub data Where (o : Ordering) (lo hi j : ℕ) : Type 0 where
   under : o ≡ Less → j < lo → Where o lo hi j
   among : o ≡ Equal → lo ≤ j → j < hi → Where o lo hi j
   over : o ≡ Greater → hi ≤ j → Where o lo hi j
 
-ranks_rise : (f : Found) → before_at f ≤ through_at f
-ranks_rise (At i) = omega arith
-ranks_rise (Before i) = omega arith
+ranks_rise : (f : Result ℕ ℕ) → before_at f ≤ through_at f
+ranks_rise (Ok i) = omega arith
+ranks_rise (Err i) = omega arith
 
-where_at : (f : ℕ → Order) (n j : ℕ) (r : Found) → Spot f n r → j < n → Where (f j) (before_at r) (through_at r) j
-where_at f n j (At i) s h = go (ordered j i)
+where_at : (f : ℕ → Ordering) (n j : ℕ) (r : Result ℕ ℕ) → Spot f n r → j < n → Where (f j) (before_at r) (through_at r) j
+where_at f n j (Ok i) s h = go (ordered j i)
   where
     go : Ordered j i → Where (f j) i (i + 1) j
     go (lower l) = under (s.2.less j l) l
     go (same e) = among (ap f e ∙ s.1) (omega arith) (omega arith)
     go (above l) = over (s.2.greater j (omega arith) h) (omega arith)
-where_at f n j (Before i) s h = go (dec_lt j i)
+where_at f n j (Err i) s h = go (dec_lt j i)
   where
     go : Dec (j < i) → Where (f j) i i j
     go (yes l) = under (s.1.less j l) l
@@ -105,7 +103,7 @@ both_lows a b e j = go (dec_le a j) (dec_le b j)
     go (no h) d = let l : j < a = omega arith in let m : j < max a b = omega arith in rw (lt-leb a j l, lt-leb (max a b) j m)
 
 module _ (log : List ℕ) (p : List ℕ → Bool) (start end : ℕ) where
-  none_from : (i : ℕ) (ss : List Slot) → end ≤ i → ((j : ℕ) → j < length ss → p (key_of log (get_or ss j free_slot)) ≡ between start end (i + j)) → first_of p i (view log ss) ≡ none
+  none_from : (i : ℕ) (ss : List Slot) → end ≤ i → ((j : ℕ) → j < length ss → p (key_of log (get_or ss j free_slot)) ≡ between start end (i + j)) → first_of p i (view log ss) ≡ None
   unfolding first_of view
   none_from i [] h q = refl
   none_from i (s ∷ ss) h q =
@@ -123,7 +121,7 @@ module _ (log : List ℕ) (p : List ℕ → Bool) (start end : ℕ) where
       moved j = let z : i + suc j ≡ suc i + j = omega arith in ap (between start end) z
 
   first-from : (i : ℕ) (ss : List Slot) → i ≤ start → end ≤ i + length ss → ((j : ℕ) → j < length ss → p (key_of log (get_or ss j free_slot)) ≡ between start end (i + j))
-      → first_of p i (view log ss) ≡ pick (ltb start end) (some start) none
+      → first_of p i (view log ss) ≡ pick (ltb start end) (Some start) None
   unfolding first_of view
   first-from i [] h g q = let l : end ≤ start = omega arith in rw (le-ltb start end l)
   first-from i (s ∷ ss) h g q = go (dec_lt i start) (dec_lt i end) (λ a b r. first-from (suc i) ss a b r)
@@ -135,8 +133,8 @@ module _ (log : List ℕ) (p : List ℕ → Bool) (start end : ℕ) where
       here = let z : i + 0 ≡ i = omega arith in q 0 (omega arith) ∙ ap (between start end) z
 
       go : Dec (i < start) → Dec (i < end)
-          → (suc i ≤ start → end ≤ suc i + length ss → ((j : ℕ) → j < length ss → p (key_of log (get_or ss j free_slot)) ≡ between start end (suc i + j)) → first_of p (suc i) (view log ss) ≡ pick (ltb start end) (some start) none)
-          → pick (p (key_of log s)) (some i) (first_of p (suc i) (view log ss)) ≡ pick (ltb start end) (some start) none
+          → (suc i ≤ start → end ≤ suc i + length ss → ((j : ℕ) → j < length ss → p (key_of log (get_or ss j free_slot)) ≡ between start end (suc i + j)) → first_of p (suc i) (view log ss) ≡ pick (ltb start end) (Some start) None)
+          → pick (p (key_of log s)) (Some i) (first_of p (suc i) (view log ss)) ≡ pick (ltb start end) (Some start) None
       go (yes a) d ih = rw (here, lt-leb start i a) (ih (omega arith) (omega arith) (λ j l. q (suc j) (omega arith) ∙ moved j))
       go (no a) (yes b) ih =
           let e : start ≡ i = omega arith in
@@ -160,5 +158,5 @@ module _ (log : List ℕ) (ss : List Slot) (s : Sorted log ss) (lower : Bound) (
       (both_lows (from_bound lower log low ss) (from_bound (last_bound given) log last ss) (upto_bound upper log high ss) j)
 
   pub first-is : upto_bound upper log high ss ≤ length ss
-      → first_of (admitted lower low upper high given last) 0 (view log ss) ≡ pick (ltb start_of (upto_bound upper log high ss)) (some start_of) none
+      → first_of (admitted lower low upper high given last) 0 (view log ss) ≡ pick (ltb start_of (upto_bound upper log high ss)) (Some start_of) None
   first-is h = first-from log (admitted lower low upper high given last) start_of (upto_bound upper log high ss) 0 ss (omega arith) (omega arith) admitted-at

@@ -3,7 +3,7 @@
 use Prim.Native.Nat.{ℕ, ◌+◌, ◌*◌, ◌/◌, ◌%◌, ◌≤◌, ◌<◌}
 use mathlib.Core.Path.{◌≡◌, refl, sym, ap, ◌∙◌, subst}
 use mathlib.Core.Bool.{Bool, true, false}
-use mathlib.Core.Option.{some}
+use Rattle.std.specs.Prelude.{Some}
 use mathlib.Core.List.{List, [], ◌∷◌, ◌++◌, append_assoc}
 use native.Mathlib.Omega.{arith}
 use lib.Dec.{leb, eqb}
@@ -109,7 +109,7 @@ item_next : (at : ℕ) (e : Entry) → next (item_for at e) ≡ at + size_of e
 item_next at (set k v) = omega arith
 item_next at (del k) = omega arith
 
-item_read : (at : ℕ) (e : Entry) → item_of (read_of e) at ≡ some (item_for at e)
+item_read : (at : ℕ) (e : Entry) → item_of (read_of e) at ≡ Some (item_for at e)
 item_read at (set k v) = refl
 item_read at (del k) = refl
 
@@ -149,7 +149,7 @@ module _ (log : List ℕ) (used : ℕ) (e : Entry) (small : length log ≤ max_l
   append-value : value_of log' (item_for used e).slot ≡ entry_value e
   append-value = item_value log' used e ∙ value-back log used e (omega arith) room
 
-  append_read : item_of (entry_at log' (used + size_of e) used) used ≡ some (item_for used e)
+  append_read : item_of (entry_at log' (used + size_of e) used) used ≡ Some (item_for used e)
   append_read = ap (λ (r : Read). item_of r used) (entry-back log used e (omega arith) room (used + size_of e) (omega arith)) ∙ item_read used e
 
   module _ (clean : ends 0 (items log used 0) ≡ used) where

@@ -2,7 +2,7 @@
 use Prim.Native.Nat.{ℕ, ◌+◌, ◌≤◌, ◌<◌}
 use mathlib.Core.Path.{◌≡◌, refl, sym, ap, ◌∙◌, subst}
 use mathlib.Core.Bool.{true, false}
-use mathlib.Core.Option.{Option, none, some}
+use Rattle.std.specs.Prelude.{Option, None, Some}
 use mathlib.Core.List.{List, [], ◌∷◌}
 use native.Mathlib.Decide.{dec_lt}
 use native.Mathlib.Omega.{arith}
@@ -27,7 +27,7 @@ ending-none n (chain_more {i = i} r c) h =
     let f = r.far in
     rw (lt-leb (next i) n (omega arith)) (ending-none n c (omega arith))
 
-item_size : (at : ℕ) (r : Read) (i : Item) → item_of r at ≡ some i → next i ≡ at + size_read r
+item_size : (at : ℕ) (r : Read) (i : Item) → item_of r at ≡ Some i → next i ≡ at + size_read r
 item_size at (Set k v) i e =
     let p : record { slot = record { place = at + 1; klen = k; vlen = v }; gone = false } ≡ i = cc in
     subst (λ (x : Item). next x ≡ at + (8 + k + v)) p (omega arith)
@@ -38,7 +38,7 @@ item_size at Stop i e = nope (cc)
 
 module _ (log : List ℕ) (n used : ℕ) (fewer : n ≤ used) where
   -- an entry that ends by n is read there too
-  item_kept : (at : ℕ) (i : Item) → item_of (entry_at log used at) at ≡ some i → next i ≤ n → item_of (entry_at log n at) at ≡ some i
+  item_kept : (at : ℕ) (i : Item) → item_of (entry_at log used at) at ≡ Some i → next i ≤ n → item_of (entry_at log n at) at ≡ Some i
   item_kept at i e h =
       let w = entry-says log used at refl (not_stop at (entry_at log used at) i e) in
       let s : size_read (entry_at log used at) ≡ size_read (head_at log at) = ap size_read w.0 in
@@ -46,16 +46,16 @@ module _ (log : List ℕ) (n used : ℕ) (fewer : n ≤ used) where
       ap (λ (r : Read). item_of r at) (entry_whole log n at (omega arith) ∙ sym w.0) ∙ e
 
   -- and one that does not is not
-  item_cut : (at : ℕ) → ((i : Item) → item_of (entry_at log used at) at ≡ some i → n < next i) → item_of (entry_at log n at) at ≡ none
+  item_cut : (at : ℕ) → ((i : Item) → item_of (entry_at log used at) at ≡ Some i → n < next i) → item_of (entry_at log n at) at ≡ None
   item_cut at h = go (item_of (entry_at log n at) at) refl
     where
-      go : (o : Option Item) → item_of (entry_at log n at) at ≡ o → o ≡ none
-      go none e = refl
-      go (some i) e =
+      go : (o : Option Item) → item_of (entry_at log n at) at ≡ o → o ≡ None
+      go None e = refl
+      go (Some i) e =
           let s = item_stands log n at i e in
           let f = h i (item_again log log n used refl fewer at i e) in absurd (omega arith)
 
-  cut_next : (at : ℕ) (i : Item) → item_of (entry_at log used at) at ≡ some i → items log n (next i) ≡ ending_by n (items log used (next i))
+  cut_next : (at : ℕ) (i : Item) → item_of (entry_at log used at) at ≡ Some i → items log n (next i) ≡ ending_by n (items log used (next i))
       → Dec (n < next i) → items log n at ≡ ending_by n (i ∷ items log used (next i))
   unfolding ending_by
   cut_next at i e ih (yes h) =

@@ -2,17 +2,15 @@
 use Prim.Native.Nat.{ℕ, ◌+◌, ◌-◌, ◌*◌, ◌/◌, ◌≤◌, ◌<◌}
 use mathlib.Core.Path.{◌≡◌, refl, sym, ap, ◌∙◌, subst}
 use mathlib.Core.Bool.{Bool, true, false}
-use mathlib.Core.Option.{Option, none, some}
 use mathlib.Core.List.{List}
 use native.Mathlib.Omega.{arith}
 use lib.Dec.{ltb}
 use lib.ListN.{length, get_or}
 use borrow.Author.Tests.{lt-ltb}
+use Rattle.std.specs.Prelude.{Result, ℕ, Ok, Err, Option, None, Some}
 use Rattle.keycode.specs.Tests.{pick}
 use Rattle.keycode.proofs.Basics.{nope}
 use Rattle.bitcask.specs.declared.keydir.slots.Slot.{Slot}
-use Rattle.bitcask.specs.declared.keydir.place.Found.{Found}
-use Rattle.bitcask.specs.declared.keydir.place.Found.TheVariants.{At, Before}
 use Rattle.bitcask.specs.keydir.Slots.{slot_words, free_slot, slots_of, table_of, key_of}
 use Rattle.bitcask.specs.keydir.Place.{place_of, place_in, put_at, cut_at, room_at, entered, Among, laid, Becomes}
 use Rattle.bitcask.proofs.keydir.SlotLaws.{slots_length, insert_length, replace_length, remove_length}
@@ -55,26 +53,26 @@ module _ (log t pd : List ℕ) (h : Held) (s : Slot) (tr : slot_words * h.count 
   abbrev ss : List Slot
   ss = slots_of h.count t
 
-  pub pend_among : (key : List ℕ) {f : Found} → f ≡ place_of log key (slots_of h.waiting pd) → Among h.waiting f
+  pub pend_among : (key : List ℕ) {f : Result ℕ ℕ} → f ≡ place_of log key (slots_of h.waiting pd) → Among h.waiting f
   pend_among key e = rw e (rw (slots_length h.waiting pd) at (place-among log key ps))
 
-  pub table-among : (key : List ℕ) {f : Found} → f ≡ place_of log key (slots_of h.count t) → Among h.count f
+  pub table-among : (key : List ℕ) {f : Result ℕ ℕ} → f ≡ place_of log key (slots_of h.count t) → Among h.count f
   table-among key e = rw e (rw (slots_length h.count t) at (place-among log key ss))
 
-  pend_room : (f : Found) → room_at pd f ps ≡ true
-  pend_room (At i) = refl
-  pend_room (Before i) = rw (slots_length h.waiting pd) (lt-ltb h.waiting (length pd / slot_words) (omega arith))
+  pend_room : (f : Result ℕ ℕ) → room_at pd f ps ≡ true
+  pend_room (Ok i) = refl
+  pend_room (Err i) = rw (slots_length h.waiting pd) (lt-ltb h.waiting (length pd / slot_words) (omega arith))
 
-  put_most : (f : Found) → Among h.waiting f → length (put_at s f ps) ≤ h.waiting + 1
-  put_most (At i) a = let l = slots_length h.waiting pd in omega (arith, replace_length i s ps (omega arith))
-  put_most (Before i) a = let l = slots_length h.waiting pd in omega (arith, insert_length i s ps (omega arith))
+  put_most : (f : Result ℕ ℕ) → Among h.waiting f → length (put_at s f ps) ≤ h.waiting + 1
+  put_most (Ok i) a = let l = slots_length h.waiting pd in omega (arith, replace_length i s ps (omega arith))
+  put_most (Err i) a = let l = slots_length h.waiting pd in omega (arith, insert_length i s ps (omega arith))
 
-  cut_most : (f : Found) → Among h.waiting f → length (cut_at f ps) ≤ h.waiting + 1
-  cut_most (At i) a = let l = slots_length h.waiting pd in omega (arith, remove_length i ps (omega arith))
-  cut_most (Before i) a = let l = slots_length h.waiting pd in omega arith
+  cut_most : (f : Result ℕ ℕ) → Among h.waiting f → length (cut_at f ps) ≤ h.waiting + 1
+  cut_most (Ok i) a = let l = slots_length h.waiting pd in omega (arith, remove_length i ps (omega arith))
+  cut_most (Err i) a = let l = slots_length h.waiting pd in omega arith
 
   -- the changes with the slot
-  module _ (f : Found) {pd' : List ℕ} {n : ℕ} (b : Becomes pd h.waiting (entered pd s f (slots_of h.waiting pd)) pd' n) where
+  module _ (f : Result ℕ ℕ) {pd' : List ℕ} {n : ℕ} (b : Becomes pd h.waiting (entered pd s f (slots_of h.waiting pd)) pd' n) where
     pend_slots : slots_of n pd' ≡ put_at s f ps
     pend_slots = becomes_slots b ∙ entered-room pd s f ps (pend_room f)
 
@@ -108,26 +106,26 @@ module _ (log t pd : List ℕ) (h : Held) (s : Slot) (tr : slot_words * h.count 
   abbrev step : List Slot → Option (List Slot)
   step r = step_in (length t / slot_words) item (place_in log (key_of log s) r) r
 
-  answer-next : {t' pd' : List ℕ} {h' : Held} (end : ℕ) (r : List Slot) (r' : List Slot) → some r' ≡ step r → Holds log t' pd' h' r' → Answers log t' pd' end (Next end h') (step r)
+  answer-next : {t' pd' : List ℕ} {h' : Held} (end : ℕ) (r : List Slot) (r' : List Slot) → Some r' ≡ step r → Holds log t' pd' h' r' → Answers log t' pd' end (Next end h') (step r)
   answer-next {t'} {pd'} {h'} end r r' e w = subst (λ (o : Option (List Slot)). Answers log t' pd' end (Next end h') o) e (answers_next w)
 
-  answer-full : {t' pd' : List ℕ} (end : ℕ) (r : List Slot) → none ≡ step r → Answers log t' pd' end Full (step r)
+  answer-full : {t' pd' : List ℕ} (end : ℕ) (r : List Slot) → None ≡ step r → Answers log t' pd' end Full (step r)
   answer-full {t'} {pd'} end r e = subst (λ (o : Option (List Slot)). Answers log t' pd' end Full o) e answers-full
 
   -- ---- an entry with a value whose key does not wait
 
-  module _ (g : is_gone s ≡ false) (i : ℕ) (eb : Before i ≡ place_of log (key_of log s) (slots_of h.waiting pd)) {key : List ℕ} {f : Found} (ek : key ≡ key_of log s)
+  module _ (g : is_gone s ≡ false) (i : ℕ) (eb : Err i ≡ place_of log (key_of log s) (slots_of h.waiting pd)) {key : List ℕ} {f : Result ℕ ℕ} (ek : key ≡ key_of log s)
       (ef : f ≡ place_of log key (slots_of h.count t)) (end : ℕ) where
     ef' : f ≡ place_of log (key_of log s) ss
     ef' = ef ∙ ap (λ (x : List ℕ). place_of log x ss) ek
 
-    no_wait : {r : List Slot} → Holds log t pd h r → look log (key_of log s) ps ≡ none
+    no_wait : {r : List Slot} → Holds log t pd h r → look log (key_of log s) ps ≡ None
     no_wait w = before-look log (key_of log s) ps w.merges.waiting eb i refl
 
     entered-fits : slot_words * length (entered t s f ss) ≤ length t
     entered-fits = entered-within t f ss (rw (slots_length h.count t) tr) (rw (slots_length h.count t) (table-among key ef)) s
 
-    pub new_at : (j : ℕ) {n : ℕ} {t' : List ℕ} → f ≡ At j → Becomes t h.count (entered t s f (slots_of h.count t)) t' n
+    pub new_at : (j : ℕ) {n : ℕ} {t' : List ℕ} → f ≡ Ok j → Becomes t h.count (entered t s f (slots_of h.count t)) t' n
         → Enters log t pd h (record { slot = s; gone = false }) end (Next end (record { count = n; waiting = h.waiting; live = h.live })) t' pd
     new_at j {n} {t'} e b = record {
       within = on_within end (record { count = n; waiting = h.waiting; live = h.live }) (length t) h.waiting (omega (arith, b.count, entered-fits)) (omega arith);
@@ -137,16 +135,16 @@ module _ (log t pd : List ℕ) (h : Held) (s : Slot) (tr : slot_words * h.count 
       where
         exactly : (r : List Slot) → Holds log t pd h r → Answers log t' pd end (Next end (record { count = n; waiting = h.waiting; live = h.live })) (step r)
         exactly r w =
-            let u : look log (key_of log s) r ≡ some (get_or ss j free_slot) = key-looks log s w.merges (no_wait w) (at-look log (key_of log s) ss w.merges.table ef' j e) in
+            let u : look log (key_of log s) r ≡ Some (get_or ss j free_slot) = key-looks log s w.merges (no_wait w) (at-look log (key_of log s) ss w.merges.table ef' j e) in
             let x : entered t s f ss ≡ put_at s (place_in log (key_of log s) ss) ss = entered-room t s f ss (rw e)
-            ∙ ap (λ (y : Found). put_at s y ss) (found_in log (key_of log s) ss w.merges.table ef') in
+            ∙ ap (λ (y : Result ℕ ℕ). put_at s y ss) (found_in log (key_of log s) ss w.merges.table ef') in
             let l : length (put_at s (place_in log (key_of log s) r) r) ≡ length r = put-live log (key_of log s) r s (get_or ss j free_slot) (place_in log (key_of log s) r) refl u in
             answer-next end r (put_at s (place_in log (key_of log s) r) r) (step-live log (key_of log s) r (length t / slot_words) s (get_or ss j free_slot) u)
             (hold_table n h.live t' (put_at s (place_in log (key_of log s) ss) ss) w (rw x at b) (omega (arith, entered-fits, ap length x)) (put-table log s w.merges
             (no_wait w)) (w.counted ∙ sym l) (omega (arith, w.fits)))
 
-    module _ (j : ℕ) (e : f ≡ Before j) where
-      fresh : {r : List Slot} → Holds log t pd h r → look log (key_of log s) r ≡ none
+    module _ (j : ℕ) (e : f ≡ Err j) where
+      fresh : {r : List Slot} → Holds log t pd h r → look log (key_of log s) r ≡ None
       fresh w = key-looks log s w.merges (no_wait w) (before-look log (key_of log s) ss w.merges.table ef' j e)
 
       pub new_full : length t / slot_words ≤ h.live → Enters log t pd h (record { slot = s; gone = false }) end Full t pd
@@ -158,14 +156,14 @@ module _ (log t pd : List ℕ) (h : Held) (s : Slot) (tr : slot_words * h.count 
 
       module _ (q : h.live < length t / slot_words) where
         pub new_last : {c : Bool} {n : ℕ} {t' : List ℕ} → c ≡ pick (ltb j h.count) false (ltb h.count (length t / slot_words)) → c ≡ true
-            → Becomes t h.count (entered t s (Before j) (slots_of h.count t)) t' n
+            → Becomes t h.count (entered t s (Err j) (slots_of h.count t)) t' n
             → Enters log t pd h (record { slot = s; gone = false }) end (Next end (record { count = n; waiting = h.waiting; live = h.live + 1 })) t' pd
         new_last {c} {n} {t'} ec tc b = record {
           within = on_within end (record { count = n; waiting = h.waiting; live = h.live + 1 }) (length t) h.waiting (omega (
             arith,
             b.count,
             ap (λ
-                (x : Found). length (entered t s x ss)) e,
+                (x : Result ℕ ℕ). length (entered t s x ss)) e,
             entered-fits,
           )) (omega arith);
           going = next-over end (record { count = n; waiting = h.waiting; live = h.live + 1 });
@@ -180,38 +178,38 @@ module _ (log t pd : List ℕ) (h : Held) (s : Slot) (tr : slot_words * h.count 
             roomy = rw (e, slots_length h.count t) (room (ltb j h.count) (sym ec ∙ tc))
 
             b' : Becomes t h.count (entered t s f ss) t' n
-            b' = subst (λ (x : Found). Becomes t h.count (entered t s x ss) t' n) (sym e) b
+            b' = subst (λ (x : Result ℕ ℕ). Becomes t h.count (entered t s x ss) t' n) (sym e) b
 
             exactly : (r : List Slot) → Holds log t pd h r → Answers log t' pd end (Next end (record { count = n; waiting = h.waiting; live = h.live + 1 })) (step r)
             exactly r w =
-                let u : look log (key_of log s) r ≡ none = fresh w in
+                let u : look log (key_of log s) r ≡ None = fresh w in
                 let x : entered t s f ss ≡ put_at s (place_in log (key_of log s) ss) ss = entered-room t s f ss roomy
-                ∙ ap (λ (y : Found). put_at s y ss) (found_in log (key_of log s) ss w.merges.table ef') in
+                ∙ ap (λ (y : Result ℕ ℕ). put_at s y ss) (found_in log (key_of log s) ss w.merges.table ef') in
                 let l : length (put_at s (place_in log (key_of log s) r) r) ≡ length r + 1 = put_fresh log (key_of log s) r s (place_in log (key_of log s) r) refl u in
                 answer-next end r (put_at s (place_in log (key_of log s) r) r) (step_new log (key_of log s) r (length t / slot_words) s u (omega (arith, w.counted)))
                 (hold_table n (h.live + 1) t' (put_at s (place_in log (key_of log s) ss) ss) w (rw x at b') (omega (arith, entered-fits, ap length x)) (put-table log s
                 w.merges (no_wait w)) (omega (arith, w.counted)) (omega (arith, w.counted)))
 
-        pub new_waits : {n : ℕ} {pd' : List ℕ} → Becomes pd h.waiting (entered pd s (Before i) (slots_of h.waiting pd)) pd' n
+        pub new_waits : {n : ℕ} {pd' : List ℕ} → Becomes pd h.waiting (entered pd s (Err i) (slots_of h.waiting pd)) pd' n
             → Enters log t pd h (record { slot = s; gone = false }) end (Next end (record { count = h.count; waiting = n; live = h.live + 1 })) t pd'
         new_waits {n} {pd'} b = record {
-          within = on_within end (record { count = h.count; waiting = n; live = h.live + 1 }) (length t) h.waiting tr (pend_most (Before i) b (pend_among (key_of log s) eb));
+          within = on_within end (record { count = h.count; waiting = n; live = h.live + 1 }) (length t) h.waiting tr (pend_most (Err i) b (pend_among (key_of log s) eb));
           going = next-over end (record { count = h.count; waiting = n; live = h.live + 1 });
           exact = exactly;
         }
           where
             exactly : (r : List Slot) → Holds log t pd h r → Answers log t pd' end (Next end (record { count = h.count; waiting = n; live = h.live + 1 })) (step r)
             exactly r w =
-                let u : look log (key_of log s) r ≡ none = fresh w in
+                let u : look log (key_of log s) r ≡ None = fresh w in
                 let l : length (put_at s (place_in log (key_of log s) r) r) ≡ length r + 1 = put_fresh log (key_of log s) r s (place_in log (key_of log s) r) refl u in
-                let x : slots_of n pd' ≡ put_at s (place_in log (key_of log s) ps) ps = pend_slots (Before i) b
-                ∙ ap (λ (y : Found). put_at s y ps) (found_in log (key_of log s) ps w.merges.waiting eb) in
+                let x : slots_of n pd' ≡ put_at s (place_in log (key_of log s) ps) ps = pend_slots (Err i) b
+                ∙ ap (λ (y : Result ℕ ℕ). put_at s y ps) (found_in log (key_of log s) ps w.merges.waiting eb) in
                 answer-next end r (put_at s (place_in log (key_of log s) r) r) (step_new log (key_of log s) r (length t / slot_words) s u (omega (arith, w.counted)))
                 (hold_pend n (h.live + 1) pd' (put_at s (place_in log (key_of log s) ps) ps) w x (put_waits log s w.merges g) (omega (arith, w.counted)) (omega (arith, w.counted)))
 
   -- ---- an entry whose key waits, or that takes its key out
 
-  module _ {key : List ℕ} {f : Found} (ek : key ≡ key_of log s) (ef : f ≡ place_of log key (slots_of h.waiting pd)) where
+  module _ {key : List ℕ} {f : Result ℕ ℕ} (ek : key ≡ key_of log s) (ef : f ≡ place_of log key (slots_of h.waiting pd)) where
     ep : f ≡ place_of log (key_of log s) ps
     ep = ef ∙ ap (λ (x : List ℕ). place_of log x ps) ek
 
@@ -220,21 +218,21 @@ module _ (log t pd : List ℕ) (h : Held) (s : Slot) (tr : slot_words * h.count 
 
     put_pend : {r : List Slot} {n : ℕ} {pd' : List ℕ} → Holds log t pd h r → Becomes pd h.waiting (entered pd s f (slots_of h.waiting pd)) pd' n
         → slots_of n pd' ≡ put_at s (place_in log (key_of log s) ps) ps
-    put_pend w b = pend_slots f b ∙ ap (λ (y : Found). put_at s y ps) (found_in log (key_of log s) ps w.merges.waiting ep)
+    put_pend w b = pend_slots f b ∙ ap (λ (y : Result ℕ ℕ). put_at s y ps) (found_in log (key_of log s) ps w.merges.waiting ep)
 
     -- a key that waits to go is not there
-    gone-look : {b : Bool} → b ≡ waits_gone (slots_of h.waiting pd) f → b ≡ true → {r : List Slot} → Holds log t pd h r → look log (key_of log s) r ≡ none
+    gone-look : {b : Bool} → b ≡ waits_gone (slots_of h.waiting pd) f → b ≡ true → {r : List Slot} → Holds log t pd h r → look log (key_of log s) r ≡ None
     gone-look eb tb {r} w = go f refl
       where
-        go : (x : Found) → f ≡ x → look log (key_of log s) r ≡ none
-        go (At i) q =
+        go : (x : Result ℕ ℕ) → f ≡ x → look log (key_of log s) r ≡ None
+        go (Ok i) q =
             let gs : is_gone (get_or ps i free_slot) ≡ true = sym (ap (waits_gone ps) q) ∙ sym eb ∙ tb in
             key-looks log s w.merges (at-look log (key_of log s) ps w.merges.waiting ep i q) refl ∙ rw gs
-        go (Before i) q = nope (cc (ap (waits_gone ps) q))
+        go (Err i) q = nope (cc (ap (waits_gone ps) q))
 
     -- one that waits to be set is
-    live-look : {b : Bool} (i : ℕ) → f ≡ At i → b ≡ waits_gone (slots_of h.waiting pd) f → b ≡ false → {r : List Slot} → Holds log t pd h r
-        → look log (key_of log s) r ≡ some (get_or (slots_of h.waiting pd) i free_slot)
+    live-look : {b : Bool} (i : ℕ) → f ≡ Ok i → b ≡ waits_gone (slots_of h.waiting pd) f → b ≡ false → {r : List Slot} → Holds log t pd h r
+        → look log (key_of log s) r ≡ Some (get_or (slots_of h.waiting pd) i free_slot)
     live-look i q eb tb {r} w =
         let gs : is_gone (get_or ps i free_slot) ≡ false = sym (ap (waits_gone ps) q) ∙ sym eb ∙ tb in
         key-looks log s w.merges (at-look log (key_of log s) ps w.merges.waiting ep i q) refl ∙ rw gs
@@ -258,13 +256,13 @@ module _ (log t pd : List ℕ) (h : Held) (s : Slot) (tr : slot_words * h.count 
           where
             exactly : (r : List Slot) → Holds log t pd h r → Answers log t pd' end (Next end (record { count = h.count; waiting = n; live = h.live + 1 })) (step r)
             exactly r w =
-                let u : look log (key_of log s) r ≡ none = gone-look ec tc w in
+                let u : look log (key_of log s) r ≡ None = gone-look ec tc w in
                 let l : length (put_at s (place_in log (key_of log s) r) r) ≡ length r + 1 = put_fresh log (key_of log s) r s (place_in log (key_of log s) r) refl u in
                 answer-next end r (put_at s (place_in log (key_of log s) r) r) (step_new log (key_of log s) r (length t / slot_words) s u (omega (arith, w.counted)))
                 (hold_pend n (h.live + 1) pd' (put_at s (place_in log (key_of log s) ps) ps) w (put_pend w b) (put_waits log s w.merges g) (omega (arith, w.counted))
                 (omega (arith, w.counted)))
 
-        pub set-over : (i : ℕ) {n : ℕ} {pd' : List ℕ} → f ≡ At i → c ≡ false → Becomes pd h.waiting (entered pd s f (slots_of h.waiting pd)) pd' n
+        pub set-over : (i : ℕ) {n : ℕ} {pd' : List ℕ} → f ≡ Ok i → c ≡ false → Becomes pd h.waiting (entered pd s f (slots_of h.waiting pd)) pd' n
             → Enters log t pd h (record { slot = s; gone = false }) end (Next end (record { count = h.count; waiting = n; live = h.live })) t pd'
         set-over i {n} {pd'} q tc b = record {
           within = on_within end (record { count = h.count; waiting = n; live = h.live }) (length t) h.waiting tr (pend_most f b among);
@@ -275,7 +273,7 @@ module _ (log t pd : List ℕ) (h : Held) (s : Slot) (tr : slot_words * h.count 
             exactly : (r : List Slot) → Holds log t pd h r → Answers log t pd' end (Next end (record { count = h.count; waiting = n; live = h.live })) (step r)
             exactly r w =
                 let x : Slot = get_or ps i free_slot in
-                let u : look log (key_of log s) r ≡ some x = live-look i q ec tc w in
+                let u : look log (key_of log s) r ≡ Some x = live-look i q ec tc w in
                 let l : length (put_at s (place_in log (key_of log s) r) r) ≡ length r = put-live log (key_of log s) r s x (place_in log (key_of log s) r) refl u in
                 answer-next end r (put_at s (place_in log (key_of log s) r) r) (step-live log (key_of log s) r (length t / slot_words) s x u)
                 (hold_pend n h.live pd' (put_at s (place_in log (key_of log s) ps) ps) w (put_pend w b) (put_waits log s w.merges g) (omega (arith, w.counted)) (omega (arith, w.fits)))
@@ -289,17 +287,17 @@ module _ (log t pd : List ℕ) (h : Held) (s : Slot) (tr : slot_words * h.count 
         exact = λ r w. subst (λ (x : List Slot). Holds log t pd h x) (sym (cut_fresh log (key_of log s) r (place_in log (key_of log s) r) refl (gone-look ec tc w))) w;
       }
 
-      module _ (g : is_gone s ≡ true) (tc : c ≡ false) {key₂ : List ℕ} {f₂ : Found} (ek₂ : key₂ ≡ key_of log s) (ef₂ : f₂ ≡ place_of log key₂ (slots_of h.count t)) (j : ℕ) where
+      module _ (g : is_gone s ≡ true) (tc : c ≡ false) {key₂ : List ℕ} {f₂ : Result ℕ ℕ} (ek₂ : key₂ ≡ key_of log s) (ef₂ : f₂ ≡ place_of log key₂ (slots_of h.count t)) (j : ℕ) where
         et : f₂ ≡ place_of log (key_of log s) ss
         et = ef₂ ∙ ap (λ (x : List ℕ). place_of log x ss) ek₂
 
-        pub del_waits : {n l : ℕ} {pd' : List ℕ} → f₂ ≡ At j → Becomes pd h.waiting (entered pd s f (slots_of h.waiting pd)) pd' n → l ≡ h.live - 1
+        pub del_waits : {n l : ℕ} {pd' : List ℕ} → f₂ ≡ Ok j → Becomes pd h.waiting (entered pd s f (slots_of h.waiting pd)) pd' n → l ≡ h.live - 1
             → Leaves log t pd h s (record { count = h.count; waiting = n; live = l }) pd'
         del_waits {n} {l} {pd'} q b el = record { count = refl; within = pend_most f b among; exact = exactly }
           where
-            there : {r : List Slot} → Holds log t pd h r → (x : Found) → f ≡ x → (y : Slot) × (look log (key_of log s) r ≡ some y)
-            there w (At i) p = (get_or ps i free_slot, live-look i p ec tc w)
-            there w (Before i) p = (
+            there : {r : List Slot} → Holds log t pd h r → (x : Result ℕ ℕ) → f ≡ x → (y : Slot) × (look log (key_of log s) r ≡ Some y)
+            there w (Ok i) p = (get_or ps i free_slot, live-look i p ec tc w)
+            there w (Err i) p = (
               get_or ss j free_slot,
               key-looks log s w.merges (before-look log (key_of log s) ps w.merges.waiting ep i p) (at-look log
                   (key_of log s) ss w.merges.table et j q),
@@ -311,25 +309,25 @@ module _ (log t pd : List ℕ) (h : Held) (s : Slot) (tr : slot_words * h.count 
                 let m : length (cut_at (place_in log (key_of log s) r) r) ≡ length r - 1 = cut_live log (key_of log s) r y.0 (place_in log (key_of log s) r) refl y.1 in
                 hold_pend n l pd' (put_at s (place_in log (key_of log s) ps) ps) w (put_pend w b) (gone_waits log s w.merges g) (omega (arith, w.counted)) (omega (arith, w.fits))
 
-        pub del_not : {n d l : ℕ} {pd' : List ℕ} → f₂ ≡ Before j → Becomes pd h.waiting (cut_at f (slots_of h.waiting pd)) pd' n → d ≡ h.waiting - n → l ≡ h.live - d
+        pub del_not : {n d l : ℕ} {pd' : List ℕ} → f₂ ≡ Err j → Becomes pd h.waiting (cut_at f (slots_of h.waiting pd)) pd' n → d ≡ h.waiting - n → l ≡ h.live - d
             → Leaves log t pd h s (record { count = h.count; waiting = n; live = l }) pd'
         del_not {n} {d} {l} {pd'} q b ed el = record { count = refl; within = omega (arith, b.count, cut_most f among); exact = exactly }
           where
-            absent : {r : List Slot} → Holds log t pd h r → look log (key_of log s) ss ≡ none
+            absent : {r : List Slot} → Holds log t pd h r → look log (key_of log s) ss ≡ None
             absent w = before-look log (key_of log s) ss w.merges.table et j q
 
-            fewer : (r : List Slot) → Holds log t pd h r → (x : Found) → f ≡ x → length (cut_at (place_in log (key_of log s) r) r) ≡ length r - (h.waiting - length (cut_at x ps))
-            fewer r w (At i) p =
+            fewer : (r : List Slot) → Holds log t pd h r → (x : Result ℕ ℕ) → f ≡ x → length (cut_at (place_in log (key_of log s) r) r) ≡ length r - (h.waiting - length (cut_at x ps))
+            fewer r w (Ok i) p =
                 let a : i < h.waiting = among-at h.waiting f i among p in
                 let z = slots_length h.waiting pd in
                 cut_live log (key_of log s) r (get_or ps i free_slot) (place_in log (key_of log s) r) refl (live-look i p ec tc w) ∙ omega (arith, remove_length i ps (omega arith))
-            fewer r w (Before i) p =
+            fewer r w (Err i) p =
                 let z = slots_length h.waiting pd in
-                let u : look log (key_of log s) r ≡ none = key-looks log s w.merges (before-look log (key_of log s) ps w.merges.waiting ep i p) (absent w) in
+                let u : look log (key_of log s) r ≡ None = key-looks log s w.merges (before-look log (key_of log s) ps w.merges.waiting ep i p) (absent w) in
                 ap length (cut_fresh log (key_of log s) r (place_in log (key_of log s) r) refl u) ∙ omega arith
 
             exactly : (r : List Slot) → Holds log t pd h r → Holds log t pd' (record { count = h.count; waiting = n; live = l }) (cut_at (place_in log (key_of log s) r) r)
             exactly r w =
                 let m = fewer r w f refl in
-                let x : slots_of n pd' ≡ cut_at (place_in log (key_of log s) ps) ps = becomes_slots b ∙ ap (λ (y : Found). cut_at y ps) (found_in log (key_of log s) ps w.merges.waiting ep) in
+                let x : slots_of n pd' ≡ cut_at (place_in log (key_of log s) ps) ps = becomes_slots b ∙ ap (λ (y : Result ℕ ℕ). cut_at y ps) (found_in log (key_of log s) ps w.merges.waiting ep) in
                 hold_pend n l pd' (cut_at (place_in log (key_of log s) ps) ps) w x (waits_not log s w.merges (absent w)) (omega (arith, w.counted, b.count)) (omega (arith, w.fits))

@@ -3,15 +3,13 @@
 use Prim.Native.Nat.{ℕ, zero, suc, ◌+◌, ◌*◌, ◌≤◌, ◌<◌}
 use mathlib.Core.Path.{◌≡◌, refl, sym, ap, ◌∙◌}
 use mathlib.Core.Bool.{Bool, true, false}
-use mathlib.Core.Option.{some}
 use mathlib.Core.List.{List, [], ◌∷◌, ◌++◌}
 use native.Mathlib.Omega.{arith}
 use lib.ListN.{length, take, drop}
+use Rattle.std.specs.Prelude.{Result, ℕ, Ok, Err, Some}
 use Rattle.bitcask.specs.entry.Reading.{entry_at}
 use Rattle.bitcask.proofs.entry.ReadingLaws.{part_same}
 use Rattle.bitcask.specs.declared.keydir.slots.Slot.{Slot}
-use Rattle.bitcask.specs.declared.keydir.place.Found.{Found}
-use Rattle.bitcask.specs.declared.keydir.place.Found.TheVariants.{At, Before}
 use Rattle.bitcask.specs.keydir.Slots.{insert_at, replace_at, remove_at, key_of, value_of}
 use Rattle.bitcask.specs.keydir.Place.{place_in, All, all_none, all_more, Sorted, sorted_none}
 use Rattle.bitcask.proofs.keydir.SortLaws.{all-turn, all-put, all_cut, sorted-put, sorted_cut, place_kept}
@@ -31,7 +29,7 @@ pub record Inside (used : ℕ) (s : Slot) : Type 0 where
   pub taken : 0 < s.place
   pub within : s.place + 7 + s.klen + s.vlen ≤ used
 
-pub all-step : {P : Slot → Type 0} (g : Bool) (s : Slot) (f : Found) (ss : List Slot) → P s → All P ss → All P (step_at g s f ss)
+pub all-step : {P : Slot → Type 0} (g : Bool) (s : Slot) (f : Result ℕ ℕ) (ss : List Slot) → P s → All P ss → All P (step_at g s f ss)
 all-step false s f ss p a = all-put ss a s f p
 all-step true s f ss p a = all_cut ss a f
 
@@ -89,12 +87,12 @@ live_rest zero (s ∷ ss) = omega arith
 live_rest (suc i) [] = omega arith
 live_rest (suc i) (s ∷ ss) = live_rest i ss
 
-live_at : (g : Bool) (s : Slot) (f : Found) (ss : List Slot) → live (step_at g s f ss) ≤ live ss + (8 + s.klen + s.vlen)
+live_at : (g : Bool) (s : Slot) (f : Result ℕ ℕ) (ss : List Slot) → live (step_at g s f ss) ≤ live ss + (8 + s.klen + s.vlen)
 unfolding replace_at insert_at remove_at live
-live_at false s (At i) ss = let a = live-append (take i ss) (s ∷ drop (suc i) ss) in let b = live_parts i ss in let d = live_rest i ss in omega arith
-live_at false s (Before i) ss = let a = live-append (take i ss) (s ∷ drop i ss) in let b = live_parts i ss in omega arith
-live_at true s (At i) ss = let a = live-append (take i ss) (drop (suc i) ss) in let b = live_parts i ss in let d = live_rest i ss in omega arith
-live_at true s (Before i) ss = omega arith
+live_at false s (Ok i) ss = let a = live-append (take i ss) (s ∷ drop (suc i) ss) in let b = live_parts i ss in let d = live_rest i ss in omega arith
+live_at false s (Err i) ss = let a = live-append (take i ss) (s ∷ drop i ss) in let b = live_parts i ss in omega arith
+live_at true s (Ok i) ss = let a = live-append (take i ss) (drop (suc i) ss) in let b = live_parts i ss in let d = live_rest i ss in omega arith
+live_at true s (Err i) ss = omega arith
 
 fold-live : (log : List ℕ) (used : ℕ) {at : ℕ} {is : List Item} (ss : List Slot) → Chain used at is → live ss ≤ at → live (fold log is ss) ≤ ends at is
 unfolding fold step ends
@@ -150,7 +148,7 @@ module _ (log log' : List ℕ) (used : ℕ) (agree : take used log ≡ take used
 
   -- ---- one entry more, at the end
 
-  module _ (used' : ℕ) (i : Item) (clean : ends 0 (items log used 0) ≡ used) (read : item_of (entry_at log' used' used) used ≡ some i) (last : next i ≡ used') (more : used ≤ used') where
+  module _ (used' : ℕ) (i : Item) (clean : ends 0 (items log used 0) ≡ used) (read : item_of (entry_at log' used' used) used ≡ Some i) (last : next i ≡ used') (more : used ≤ used') where
     pub items_one : items log' used' 0 ≡ items log used 0 ++ (i ∷ [])
     items_one =
         let z : items log' used' used ≡ i ∷ [] = items-next log' used' used i read ∙ ap (λ (a : ℕ). i ∷ items log' used' a) last

@@ -2,24 +2,21 @@
 use Prim.Native.Nat.{ℕ, ◌+◌, ◌/◌, ◌≤◌}
 use mathlib.Core.Path.{◌≡◌, refl, sym, ap, ◌∙◌}
 use mathlib.Core.Bool.{Bool, true, false}
-use mathlib.Core.Option.{Option, none, some}
 use mathlib.Core.List.{List, [], ◌∷◌, ◌++◌}
 use native.Mathlib.Omega.{arith}
 use lib.ListN.{length, take}
 use borrow.Author.Tests.{lt-ltb, ltb-true}
+use Rattle.std.specs.Prelude.{Result, ℕ, Ok, Err, Option, None, Some}
+use Rattle.keycode.specs.declared.refusal.Refusal.{Refusal}
 use Rattle.keycode.specs.Limits.{max_log}
 use Rattle.keycode.specs.Buffer.{put}
 use Rattle.bitcask.specs.entry.Entry.{Entry, bytes_of, size_of}
 use Rattle.bitcask.specs.declared.keydir.slots.Slot.{Slot}
-use Rattle.bitcask.specs.declared.keydir.place.Found.{Found}
-use Rattle.bitcask.specs.declared.keydir.place.Found.TheVariants.{At, Before}
 use Rattle.bitcask.specs.keydir.Slots.{slot_words, key_of}
 use Rattle.bitcask.specs.keydir.Place.{place_in, Among, All, all_none}
 use Rattle.bitcask.proofs.keydir.SlotLaws.{insert_length}
 use Rattle.bitcask.proofs.keydir.PlaceLaws.{place_in_among}
 use Rattle.bitcask.specs.declared.request.Used.{Used}
-use Rattle.bitcask.specs.declared.request.Changed.{Changed}
-use Rattle.bitcask.specs.declared.request.Changed.TheVariants.{Done}
 use Rattle.bitcask.specs.recovery.Map.{after}
 use Rattle.bitcask.specs.recovery.Recover.{Item, item_for, items_of, items, ends, step_at, step, fold, recovered, map_of, room_for, step_in, then_run, run}
 use Rattle.bitcask.specs.recovery.Agree.{fit}
@@ -33,13 +30,13 @@ use Rattle.bitcask.proofs.recovery.OpenLaws.{then_some, Opened}
 
 -- ---- a run with room
 
-then_same : (o : Option (List Slot)) (f g : List Slot → Option (List Slot)) → ((r : List Slot) → o ≡ some r → f r ≡ g r) → then_run o f ≡ then_run o g
-then_same none f g h = refl
-then_same (some r) f g h = h r refl
+then_same : (o : Option (List Slot)) (f g : List Slot → Option (List Slot)) → ((r : List Slot) → o ≡ Some r → f r ≡ g r) → then_run o f ≡ then_run o g
+then_same None f g h = refl
+then_same (Some r) f g h = h r refl
 
 then_both : (o : Option (List Slot)) (f g h : List Slot → Option (List Slot)) → ((r : List Slot) → f r ≡ then_run (g r) h) → then_run o f ≡ then_run (then_run o g) h
-then_both none f g h e = refl
-then_both (some r) f g h e = e r
+then_both None f g h e = refl
+then_both (Some r) f g h e = e r
 
 run-append : (log : List ℕ) (cap : ℕ) (is js : List Item) (ss : List Slot) → run log cap (is ++ js) ss ≡ then_run (run log cap is ss) (λ r. run log cap js r)
 unfolding run
@@ -58,15 +55,15 @@ module _ (log log' : List ℕ) (used : ℕ) (agree : take used log ≡ take used
       let g : f ≡ place_in log' (key_of log' i.slot) ss = rw (key-same log log' used agree h, place_same log log' used agree (key_of log' i.slot) a) in
       then_same (step_in cap i f ss) (λ r. run log cap is r) (λ r. run log' cap is r)
       (λ r e. run-same c (rw (step_some cap i f ss e).1 (all-step i.gone i.slot f ss h a)))
-      ∙ ap (λ (x : Found). then_run (step_in cap i x ss) (λ r. run log' cap is r)) g
+      ∙ ap (λ (x : Result ℕ ℕ). then_run (step_in cap i x ss) (λ r. run log' cap is r)) g
 
 -- a step whose slots find room is made
-room_for_lem : (cap : ℕ) (g : Bool) (s : Slot) (f : Found) (ss : List Slot) → Among (length ss) f → length (step_at g s f ss) ≤ cap → room_for cap g f (length ss) ≡ true
+room_for_lem : (cap : ℕ) (g : Bool) (s : Slot) (f : Result ℕ ℕ) (ss : List Slot) → Among (length ss) f → length (step_at g s f ss) ≤ cap → room_for cap g f (length ss) ≡ true
 room_for_lem cap true s f ss a h = refl
-room_for_lem cap false s (At i) ss a h = refl
-room_for_lem cap false s (Before i) ss a h = lt-ltb (length ss) cap (omega (arith, insert_length i s ss a))
+room_for_lem cap false s (Ok i) ss a h = refl
+room_for_lem cap false s (Err i) ss a h = lt-ltb (length ss) cap (omega (arith, insert_length i s ss a))
 
-run_one : (log : List ℕ) (cap : ℕ) (i : Item) (ss : List Slot) → length (step log i ss) ≤ cap → run log cap (i ∷ []) ss ≡ some (step log i ss)
+run_one : (log : List ℕ) (cap : ℕ) (i : Item) (ss : List Slot) → length (step log i ss) ≤ cap → run log cap (i ∷ []) ss ≡ Some (step log i ss)
 unfolding run step step_in
 run_one log cap i ss h =
     let k = key_of log i.slot in
@@ -76,7 +73,7 @@ run_one log cap i ss h =
 
 pub record Grown (cap : ℕ) (log : List ℕ) (used : ℕ) : Type 0 where
   pub clean : ends 0 (items log used 0) ≡ used
-  pub runs : run log cap (items log used 0) [] ≡ some (recovered log used)
+  pub runs : run log cap (items log used 0) [] ≡ Some (recovered log used)
 
 pub grown_start : (cap : ℕ) (log : List ℕ) → Grown cap log 0
 unfolding items items_of ends run recovered fold
@@ -105,24 +102,24 @@ module _ (log : List ℕ) (used : ℕ) (e : Entry) (small : length log ≤ max_l
             ap (λ (is : List Item). run log' cap is []) (append-items log used e small room g.clean)
             ∙ run-append log' cap (items log used 0) (i ∷ []) []
             ∙ ap (λ (x : Option (List Slot)). then_run x (λ r. run log' cap (i ∷ []) r)) (sym (run-same log log' used agree cap (items_chain log used 0) all_none) ∙ g.runs)
-            ∙ run_one log' cap i ss (omega arith) ∙ ap some (sym s);
+            ∙ run_one log' cap i ss (omega arith) ∙ ap Some (sym s);
       }
 
 -- ---- with more room
 
 module _ (cap cap' : ℕ) (more : cap ≤ cap') where
-  room-more : (g : Bool) (f : Found) (n : ℕ) → room_for cap g f n ≡ true → room_for cap' g f n ≡ true
+  room-more : (g : Bool) (f : Result ℕ ℕ) (n : ℕ) → room_for cap g f n ≡ true → room_for cap' g f n ≡ true
   room-more true f n e = refl
-  room-more false (At i) n e = refl
-  room-more false (Before i) n e = lt-ltb n cap' (omega (arith, ltb-true n cap e))
+  room-more false (Ok i) n e = refl
+  room-more false (Err i) n e = lt-ltb n cap' (omega (arith, ltb-true n cap e))
 
-  step-more : (i : Item) (f : Found) (ss : List Slot) {r : List Slot} → step_in cap i f ss ≡ some r → step_in cap' i f ss ≡ some r
+  step-more : (i : Item) (f : Result ℕ ℕ) (ss : List Slot) {r : List Slot} → step_in cap i f ss ≡ Some r → step_in cap' i f ss ≡ Some r
   unfolding step_in
   step-more i f ss e =
       let p = step_some cap i f ss e in
-      rw (room-more i.gone f (length ss) p.0) (ap some (sym p.1))
+      rw (room-more i.gone f (length ss) p.0) (ap Some (sym p.1))
 
-  run_more : (log : List ℕ) (is : List Item) (ss : List Slot) {r : List Slot} → run log cap is ss ≡ some r → run log cap' is ss ≡ some r
+  run_more : (log : List ℕ) (is : List Item) (ss : List Slot) {r : List Slot} → run log cap is ss ≡ Some r → run log cap' is ss ≡ Some r
   unfolding run
   run_more log [] ss e = e
   run_more log (i ∷ is) ss e =
@@ -134,7 +131,7 @@ module _ (cap cap' : ℕ) (more : cap ≤ cap') where
   grown_more {log} {used} g = record { clean = g.clean; runs = run_more log (items log used 0) [] g.runs }
 
 -- as many slots are enough to open it, and nothing is cut
-pub grown_opens : {cap : ℕ} {log : List ℕ} {used : ℕ} {t t' : List ℕ} {r : Changed} → Grown cap log used → fit (length log) used (length t) ≡ true → cap ≤ length t / slot_words
-    → Opens log used t r t' → r ≡ Done (record { len = used })
+pub grown_opens : {cap : ℕ} {log : List ℕ} {used : ℕ} {t t' : List ℕ} {r : Result Used Refusal} → Grown cap log used → fit (length log) used (length t) ≡ true → cap ≤ length t / slot_words
+    → Opens log used t r t' → r ≡ Ok (record { len = used })
 unfolding open_answer
 grown_opens {cap} {t = t} g f h o = o.answer ∙ rw (f, (grown_more cap (length t / slot_words) h g).runs, g.clean)

@@ -2,7 +2,7 @@
 use Prim.Native.Nat.{ℕ, zero, suc, ◌+◌, ◌-◌, ◌≤◌, ◌<◌}
 use mathlib.Core.Path.{◌≡◌, refl, sym, ap, ◌∙◌, subst}
 use mathlib.Core.Bool.{true, false}
-use mathlib.Core.Option.{Option, none, some}
+use Rattle.std.specs.Prelude.{Option, None, Some}
 use mathlib.Core.List.{List, [], ◌∷◌, ◌++◌}
 use native.Mathlib.Omega.{arith}
 use lib.ListN.{take}
@@ -19,7 +19,7 @@ pub record Stands (used at : ℕ) (i : Item) : Type 0 where
   pub far : at + 8 ≤ next i
   pub near : next i ≤ used
 
-read_stands : (log : List ℕ) (used at : ℕ) (i : Item) (r : Read) → entry_at log used at ≡ r → item_of r at ≡ some i → Stands used at i
+read_stands : (log : List ℕ) (used at : ℕ) (i : Item) (r : Read) → entry_at log used at ≡ r → item_of r at ≡ Some i → Stands used at i
 read_stands log used at i (Set k v) e q =
     let w = entry-says log used at e (λ z. nope (cc)) in
     let p : record { slot = record { place = at + 1; klen = k; vlen = v }; gone = false } ≡ i = cc in
@@ -31,17 +31,17 @@ read_stands log used at i (Del k) e q =
 read_stands log used at i Stop e q = nope (cc)
 
 module _ (log : List ℕ) (used at : ℕ) where
-  pub item_stands : (i : Item) → item_of (entry_at log used at) at ≡ some i → Stands used at i
+  pub item_stands : (i : Item) → item_of (entry_at log used at) at ≡ Some i → Stands used at i
   item_stands i e = read_stands log used at i (entry_at log used at) refl e
 
-  pub item_none : used < at + 8 → item_of (entry_at log used at) at ≡ none
+  pub item_none : used < at + 8 → item_of (entry_at log used at) at ≡ None
   item_none h = rw (entry-short log used at h)
 
 -- ---- the counter
 
-on_same : (o : Option Item) (f g : ℕ → List Item) → ((i : Item) → o ≡ some i → f (next i) ≡ g (next i)) → and_on o f ≡ and_on o g
-on_same none f g h = refl
-on_same (some i) f g h = ap (λ (r : List Item). i ∷ r) (h i refl)
+on_same : (o : Option Item) (f g : ℕ → List Item) → ((i : Item) → o ≡ Some i → f (next i) ≡ g (next i)) → and_on o f ≡ and_on o g
+on_same None f g h = refl
+on_same (Some i) f g h = ap (λ (r : List Item). i ∷ r) (h i refl)
 
 -- more than what is left of the log changes nothing
 enough : (log : List ℕ) (used n m at : ℕ) → used - at ≤ n → used - at ≤ m → items_of n log used at ≡ items_of m log used at
@@ -54,11 +54,11 @@ enough log used (suc n) (suc m) at h k =
     (λ i e. let r = item_stands log used at i e in enough log used n m (next i) (omega arith) (omega arith))
 
 module _ (log : List ℕ) (used at : ℕ) where
-  pub items-stop : item_of (entry_at log used at) at ≡ none → items log used at ≡ []
+  pub items-stop : item_of (entry_at log used at) at ≡ None → items log used at ≡ []
   unfolding items items_of
   items-stop e = enough log used (used - at) (suc (used - at)) at (omega arith) (omega arith) ∙ rw e
 
-  pub items-next : (i : Item) → item_of (entry_at log used at) at ≡ some i → items log used at ≡ i ∷ items log used (next i)
+  pub items-next : (i : Item) → item_of (entry_at log used at) at ≡ Some i → items log used at ≡ i ∷ items log used (next i)
   unfolding items items_of
   items-next i e =
       let r = item_stands log used at i e in
@@ -67,13 +67,13 @@ module _ (log : List ℕ) (used at : ℕ) where
 
 -- a fact of the offsets of a log's entries, from the last to the first
 pub by_items : (log : List ℕ) (used : ℕ) (P : ℕ → Type 0)
-    → ((at : ℕ) → item_of (entry_at log used at) at ≡ none → P at)
-    → ((at : ℕ) (i : Item) → item_of (entry_at log used at) at ≡ some i → P (next i) → P at) → (at : ℕ) → P at
+    → ((at : ℕ) → item_of (entry_at log used at) at ≡ None → P at)
+    → ((at : ℕ) (i : Item) → item_of (entry_at log used at) at ≡ Some i → P (next i) → P at) → (at : ℕ) → P at
 by_items log used P over more at = go (used - at) at (omega arith)
   where
-    on : (at : ℕ) (o : Option Item) → item_of (entry_at log used at) at ≡ o → ((i : Item) → o ≡ some i → P (next i)) → P at
-    on at none e ih = over at e
-    on at (some i) e ih = more at i e (ih i refl)
+    on : (at : ℕ) (o : Option Item) → item_of (entry_at log used at) at ≡ o → ((i : Item) → o ≡ Some i → P (next i)) → P at
+    on at None e ih = over at e
+    on at (Some i) e ih = more at i e (ih i refl)
 
     go : (n at : ℕ) → used - at ≤ n → P at
     go zero at h = on at (item_of (entry_at log used at) at) refl (λ i e. let r = item_stands log used at i e in absurd (omega arith))
@@ -108,14 +108,14 @@ ends-append at (i ∷ is) js = ends-append (next i) is js
 
 -- ---- two logs that agree in the first `used` bytes
 
-pub not_stop : (at : ℕ) (r : Read) (i : Item) → item_of r at ≡ some i → r ≡ Stop → ⊥
+pub not_stop : (at : ℕ) (r : Read) (i : Item) → item_of r at ≡ Some i → r ≡ Stop → ⊥
 not_stop at (Set k v) i e q = nope (cc)
 not_stop at (Del k) i e q = nope (cc)
 not_stop at Stop i e q = nope (cc)
 
 module _ (log log' : List ℕ) (used used' : ℕ) (agree : take used log ≡ take used log') (more : used ≤ used') where
   -- what is whole stays the same entry where more bytes count
-  pub item_again : (at : ℕ) (i : Item) → item_of (entry_at log used at) at ≡ some i → item_of (entry_at log' used' at) at ≡ some i
+  pub item_again : (at : ℕ) (i : Item) → item_of (entry_at log used at) at ≡ Some i → item_of (entry_at log' used' at) at ≡ Some i
   item_again at i e = ap (λ (r : Read). item_of r at) (entry-again log log' used agree used' at more (not_stop at (entry_at log used at) i e)) ∙ e
 
   -- the entries of the longer log are those of the shorter, and those from where it ended

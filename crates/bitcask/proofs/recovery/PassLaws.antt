@@ -1,7 +1,7 @@
 -- Laws of entries passed: what holds before each, and what they come to. Assumes nothing.
 use Prim.Native.Nat.{ℕ, zero, suc, ◌-◌, ◌*◌, ◌/◌, ◌≤◌, ◌<◌}
 use mathlib.Core.Path.{◌≡◌, refl, sym, ap, ◌∙◌, subst}
-use mathlib.Core.Option.{Option, none, some}
+use Rattle.std.specs.Prelude.{Option, None, Some}
 use mathlib.Core.List.{List, [], ◌∷◌}
 use native.Mathlib.Omega.{arith}
 use lib.ListN.{length, replicate}
@@ -29,18 +29,18 @@ use Rattle.bitcask.proofs.recovery.TakeLaws.{full-says, next-says}
 -- ---- the entries left
 
 module _ (log : List ℕ) (used : ℕ) where
-  pub items-none : (n at : ℕ) → item_of (entry_at log used at) at ≡ none → items_of n log used at ≡ []
+  pub items-none : (n at : ℕ) → item_of (entry_at log used at) at ≡ None → items_of n log used at ≡ []
   unfolding items_of
   items-none zero at e = refl
   items-none (suc n) at e = rw e
 
-  pub items_one : (n at : ℕ) (i : Item) → 0 < n → item_of (entry_at log used at) at ≡ some i → items_of n log used at ≡ i ∷ items_of (n - 1) log used (next i)
+  pub items_one : (n at : ℕ) (i : Item) → 0 < n → item_of (entry_at log used at) at ≡ Some i → items_of n log used at ≡ i ∷ items_of (n - 1) log used (next i)
   unfolding items_of
   items_one zero at i h e = absurd (omega arith)
   items_one (suc n) at i h e = (let m : n ≡ suc n - 1 = omega arith in rw e (ap (λ (k : ℕ). i ∷ items_of k log used (next i)) m))
   -- some entries and then others are all
 
-run-over : (log : List ℕ) (cap : ℕ) (r : List Slot) {is : List Item} → is ≡ [] → run log cap is r ≡ some r
+run-over : (log : List ℕ) (cap : ℕ) (r : List Slot) {is : List Item} → is ≡ [] → run log cap is r ≡ Some r
 unfolding run
 run-over log cap r e = rw e
 
@@ -114,7 +114,7 @@ module _ {log : List ℕ} {used : ℕ} {t : List ℕ} {n start most : ℕ} {x pd
   cap_same = ap (λ (k : ℕ). k / slot_words) w.long
 
   -- the run of the entries left, where one stands
-  one_run : (i : Item) → 0 < left → item_of (entry_at log used at) at ≡ some i → (r : List Slot) (q : Option (List Slot))
+  one_run : (i : Item) → 0 < left → item_of (entry_at log used at) at ≡ Some i → (r : List Slot) (q : Option (List Slot))
       → step_in (length x / slot_words) i (place_in log (key_of log i.slot) r) r ≡ q
       → run log (length t / slot_words) (items_of left log used at) r ≡ then_run q (λ z. run log (length t / slot_words) (items_of (left - 1) log used (next i)) z)
   unfolding run
@@ -124,14 +124,14 @@ module _ {log : List ℕ} {used : ℕ} {t : List ℕ} {n start most : ℕ} {x pd
       ∙ ap (λ (z : Option (List Slot)). then_run z (λ y. run log (length t / slot_words) (items_of (left - 1) log used (next i)) y)) f
 
   module _ (pos : 0 < left) {o : Took} {x' pd' : List ℕ} (v : TakesEntry log used x pd h at o x' pd') where
-    stands : (a : Option Item) → item_of (entry_at log used at) at ≡ a → (o ≡ Over → ⊥) → (i : Item) × (item_of (entry_at log used at) at ≡ some i)
-    stands none e f = absurd (f (v.stop e).0)
-    stands (some i) e f = (i, e)
+    stands : (a : Option Item) → item_of (entry_at log used at) at ≡ a → (o ≡ Over → ⊥) → (i : Item) × (item_of (entry_at log used at) at ≡ Some i)
+    stands None e f = absurd (f (v.stop e).0)
+    stands (Some i) e f = (i, e)
 
     pub passing_next : (a : ℕ) (h' : Held) → h.waiting < max_waiting → length x' ≡ length x → length pd' ≡ length pd → o ≡ Next a h' → Passing log used t n start most x' pd' a h' (left - 1)
     passing_next a h' few lx lp e = go (stands (item_of (entry_at log used at) at) refl (λ q. nope (cc)))
       where
-        onward : (i : Item) → item_of (entry_at log used at) at ≡ some i → a ≡ next i → Enters log x pd h i (next i) o x' pd' → (ss : List Slot)
+        onward : (i : Item) → item_of (entry_at log used at) at ≡ Some i → a ≡ next i → Enters log x pd h i (next i) o x' pd' → (ss : List Slot)
             → Onward log used (length t / slot_words) start most ss x pd at h left → Onward log used (length t / slot_words) start most ss x' pd' a h' (left - 1)
         onward i q ea en ss y =
             let z = next-says (en.exact y.slots y.holds) a h' e in
@@ -139,7 +139,7 @@ module _ {log : List ℕ} {used : ℕ} {t : List ℕ} {n start most : ℕ} {x pd
             record {
               slots = z.0;
               holds = z.2;
-              runs = ap (λ (k : ℕ). run log (length t / slot_words) (items_of (left - 1) log used k) z.0) ea ∙ sym (one_run i pos q y.slots (some z.0) z.1) ∙ y.runs;
+              runs = ap (λ (k : ℕ). run log (length t / slot_words) (items_of (left - 1) log used k) z.0) ea ∙ sym (one_run i pos q y.slots (Some z.0) z.1) ∙ y.runs;
               ended = ended_one i ea it ∙ y.ended;
               spare = spare_one i ea it ∙ y.spare;
             }
@@ -153,7 +153,7 @@ module _ {log : List ℕ} {used : ℕ} {t : List ℕ} {n start most : ℕ} {x pd
                 let p = ap length it in
                 let q = ap (λ (k : ℕ). length (items_of (left - 1) log used k)) ea in omega arith
 
-        go : (i : Item) × (item_of (entry_at log used at) at ≡ some i) → Passing log used t n start most x' pd' a h' (left - 1)
+        go : (i : Item) × (item_of (entry_at log used at) at ≡ Some i) → Passing log used t n start most x' pd' a h' (left - 1)
         go p =
             let i : Item = p.0 in
             let en : Enters log x pd h i (next i) o x' pd' = v.entry i p.1 in
@@ -170,23 +170,23 @@ module _ {log : List ℕ} {used : ℕ} {t : List ℕ} {n start most : ℕ} {x pd
     pub passing_full : {z : List ℕ} → z ≡ replicate (length x') 0 → length x' ≡ length x → o ≡ Full → Passes log used t n start most NoRoom z
     passing_full {z} ez lx e = go (stands (item_of (entry_at log used at) at) refl (λ q. nope (cc)))
       where
-        no_run : (i : Item) → item_of (entry_at log used at) at ≡ some i → (ss : List Slot) → Tidy log t n ss → run log (length t / slot_words) (items_of most log used start) ss ≡ none
+        no_run : (i : Item) → item_of (entry_at log used at) at ≡ Some i → (ss : List Slot) → Tidy log t n ss → run log (length t / slot_words) (items_of most log used start) ss ≡ None
         no_run i q ss y =
             let u = w.exact ss y in
-            sym u.runs ∙ one_run i pos q u.slots none (full-says ((v.entry i q).exact u.slots u.holds) e)
+            sym u.runs ∙ one_run i pos q u.slots None (full-says ((v.entry i q).exact u.slots u.holds) e)
 
-        go : (i : Item) × (item_of (entry_at log used at) at ≡ some i) → Passes log used t n start most NoRoom z
+        go : (i : Item) × (item_of (entry_at log used at) at ≡ Some i) → Passes log used t n start most NoRoom z
         go p = record {
           within = λ a m l q. nope (cc);
           answer = λ ss y. rw (no_run p.0 p.1 ss y);
           table = λ ss y. rw (no_run p.0 p.1 ss y) (ez ∙ ap (λ (k : ℕ). replicate k 0) (lx ∙ w.long));
         }
 
-    over_none : o ≡ Over → (a : Option Item) → item_of (entry_at log used at) at ≡ a → a ≡ none
-    over_none e none q = refl
-    over_none e (some i) q = absurd ((v.entry i q).going e)
+    over_none : o ≡ Over → (a : Option Item) → item_of (entry_at log used at) at ≡ a → a ≡ None
+    over_none e None q = refl
+    over_none e (Some i) q = absurd ((v.entry i q).going e)
 
-    pub passing_over : o ≡ Over → (item_of (entry_at log used at) at ≡ none) × (x' ≡ x) × (pd' ≡ pd)
+    pub passing_over : o ≡ Over → (item_of (entry_at log used at) at ≡ None) × (x' ≡ x) × (pd' ≡ pd)
     passing_over e = let q = over_none e (item_of (entry_at log used at) at) refl in (q, (v.stop q).1, (v.stop q).2)
 
   -- the end: nothing waits, and no entry is left, or none may be passed
@@ -205,7 +205,7 @@ module _ {log : List ℕ} {used : ℕ} {t : List ℕ} {n start most : ℕ} {x pd
       ended ss u =
           let r : List Slot = u.slots in
           let hr : Holds log x' pd h' r = v.exact r u.holds in
-          let p : run log (length t / slot_words) (items_of most log used start) ss ≡ some r = sym u.runs ∙ run-over log (length t / slot_words) r z in
+          let p : run log (length t / slot_words) (items_of most log used start) ss ≡ Some r = sym u.runs ∙ run-over log (length t / slot_words) r z in
           let q : ends start (items_of most log used start) ≡ at = sym u.ended ∙ ends-over at z in
           let d : most - length (items_of most log used start) ≡ left = sym u.spare ∙ spare-over left z in
           let s : slots_of h'.count x' ≡ r = settled_slots log x' pd h' r hr e in

@@ -7,10 +7,9 @@ use native.Mathlib.Omega.{arith}
 use lib.Dec.{ltb}
 use lib.ListN.{length}
 use borrow.Author.Tests.{lt-ltb, le-ltb}
+use Rattle.std.specs.Prelude.{Result, ℕ, Ok, Err}
 use Rattle.keycode.specs.Tests.{pick}
 use Rattle.bitcask.specs.declared.keydir.slots.Slot.{Slot}
-use Rattle.bitcask.specs.declared.keydir.place.Found.{Found}
-use Rattle.bitcask.specs.declared.keydir.place.Found.TheVariants.{At, Before}
 use Rattle.bitcask.specs.keydir.Slots.{slot_words, slot_at, slots_of, table_of, key_of}
 use Rattle.bitcask.specs.keydir.Place.{place_of, Among, Sorted, sorted_none, laid, Becomes}
 use Rattle.bitcask.proofs.keydir.SlotLaws.{slots_length, slot_at_is}
@@ -60,15 +59,15 @@ last_no place count slots h = rw (lt-ltb place count h)
 pub last_yes : (place count slots : ℕ) → count ≤ place → ltb count slots ≡ pick (ltb place count) false (ltb count slots)
 last_yes place count slots h = rw (le-ltb place count h)
 
-module _ (pd : List ℕ) (n : ℕ) (f : Found) (i : ℕ) where
-  pub waits_at : {b : Bool} {s : Slot} → Among n f → f ≡ At i → s ≡ slot_at pd i → b ≡ is_gone s → b ≡ waits_gone (slots_of n pd) f
+module _ (pd : List ℕ) (n : ℕ) (f : Result ℕ ℕ) (i : ℕ) where
+  pub waits_at : {b : Bool} {s : Slot} → Among n f → f ≡ Ok i → s ≡ slot_at pd i → b ≡ is_gone s → b ≡ waits_gone (slots_of n pd) f
   waits_at a e es eb = eb ∙ ap is_gone (es ∙ slot_at_is n pd i (among-at n f i a e)) ∙ ap (waits_gone (slots_of n pd)) (sym e)
 
-  pub waits_before : f ≡ Before i → false ≡ waits_gone (slots_of n pd) f
+  pub waits_before : f ≡ Err i → false ≡ waits_gone (slots_of n pd) f
   waits_before e = ap (waits_gone (slots_of n pd)) (sym e)
 
 pub stays : (log t pd : List ℕ) (h : Held) → slot_words * h.count ≤ length t → Settles log t pd h h t
 stays log t pd h p = record { within = p; exact = λ r w. w }
 
-pub key-place : (log : List ℕ) (s : Slot) (xs : List Slot) {key : List ℕ} {f g : Found} → key ≡ key_of log s → f ≡ place_of log key xs → f ≡ g → g ≡ place_of log (key_of log s) xs
+pub key-place : (log : List ℕ) (s : Slot) (xs : List Slot) {key : List ℕ} {f g : Result ℕ ℕ} → key ≡ key_of log s → f ≡ place_of log key xs → f ≡ g → g ≡ place_of log (key_of log s) xs
 key-place log s xs ek ef e = sym e ∙ ef ∙ ap (λ (k : List ℕ). place_of log k xs) ek

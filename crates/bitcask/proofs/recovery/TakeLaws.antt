@@ -2,7 +2,7 @@
 use Prim.Native.Nat.{ℕ, ◌+◌, ◌*◌, ◌/◌, ◌≤◌}
 use mathlib.Core.Path.{◌≡◌, refl, sym, ap, ◌∙◌, subst}
 use mathlib.Core.Bool.{true, false}
-use mathlib.Core.Option.{Option, none, some}
+use Rattle.std.specs.Prelude.{Option, None, Some}
 use mathlib.Core.List.{List}
 use native.Mathlib.Omega.{arith}
 use lib.ListN.{length}
@@ -39,7 +39,7 @@ key_marked : (log : List ℕ) (p k v v' : ℕ) → key_of log (record { place = 
 unfolding key_of
 key_marked log p k v v' = refl
 
-del-step : (log : List ℕ) (cap : ℕ) (s : Slot) (r : List Slot) → some (cut_at (place_in log (key_of log s) r) r) ≡ step_in cap (record { slot = s; gone = true }) (place_in log (key_of log s) r) r
+del-step : (log : List ℕ) (cap : ℕ) (s : Slot) (r : List Slot) → Some (cut_at (place_in log (key_of log s) r) r) ≡ step_in cap (record { slot = s; gone = true }) (place_in log (key_of log s) r) r
 unfolding step_in
 del-step log cap s r = refl
 
@@ -97,11 +97,11 @@ module _ (log : List ℕ) (used : ℕ) (t pd : List ℕ) (h : Held) (at : ℕ) {
 
 -- ---- what an answer says
 
-pub full-says : {log t pd : List ℕ} {end : ℕ} {o : Took} {q : Option (List Slot)} → Answers log t pd end o q → o ≡ Full → q ≡ none
+pub full-says : {log t pd : List ℕ} {end : ℕ} {o : Took} {q : Option (List Slot)} → Answers log t pd end o q → o ≡ Full → q ≡ None
 full-says answers-full e = refl
 full-says (answers_next w) e = nope (cc)
 
 pub next-says : {log t pd : List ℕ} {end : ℕ} {o : Took} {q : Option (List Slot)} → Answers log t pd end o q → (a : ℕ) (h : Held) → o ≡ Next a h
-    → (r : List Slot) × (q ≡ some r) × Holds log t pd h r
+    → (r : List Slot) × (q ≡ Some r) × Holds log t pd h r
 next-says answers-full a h e = nope (cc)
 next-says {log} {t} {pd} (answers_next {h = g} {r = r} w) a h e = let f : g ≡ h = cc in (r, refl, subst (λ (x : Held). Holds log t pd x r) f w)

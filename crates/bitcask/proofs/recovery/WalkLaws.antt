@@ -3,23 +3,21 @@
 use Prim.Native.Nat.{ℕ, ◌-◌, ◌/◌, ◌≤◌}
 use mathlib.Core.Path.{◌≡◌, refl, sym, ap, ◌∙◌, subst}
 use mathlib.Core.Bool.{Bool, true, false}
-use mathlib.Core.Option.{Option, none, some}
 use mathlib.Core.List.{List, []}
 use native.Mathlib.Omega.{arith}
 use lib.ListN.{length, replicate}
 use borrow.Author.Tests.{ltb-true}
+use Rattle.std.specs.Prelude.{Result, ℕ, Ok, Err, Option, None, Some}
+use Rattle.bitcask.specs.declared.request.Used.{Used}
+use Rattle.keycode.specs.declared.refusal.Refusal.{Refusal}
 use Rattle.keycode.specs.Tests.{pick}
 use Rattle.keycode.specs.declared.refusal.Refusal.TheVariants.{TableFull, BadRequest}
 use Rattle.keycode.proofs.Basics.{nope}
 use Rattle.bitcask.specs.declared.keydir.slots.Slot.{Slot}
-use Rattle.bitcask.specs.declared.keydir.place.Found.{Found}
-use Rattle.bitcask.specs.declared.keydir.place.Found.TheVariants.{At, Before}
 use Rattle.bitcask.specs.keydir.Slots.{slot_words}
 use Rattle.bitcask.specs.keydir.Place.{Among, sorted_none}
 use Rattle.bitcask.proofs.keydir.SlotLaws.{insert_length, replace_length, remove_length}
 use Rattle.bitcask.proofs.keydir.TableLaws.{table_empty}
-use Rattle.bitcask.specs.declared.request.Changed.{Changed}
-use Rattle.bitcask.specs.declared.request.Changed.TheVariants.{Done, Refused}
 use Rattle.bitcask.specs.recovery.Recover.{Item, items, ends, room_for, step_at, step_in, run, items_of}
 use Rattle.bitcask.specs.recovery.Agree.{fit}
 use Rattle.bitcask.specs.recovery.Promises.{open_answer, open_table, Walks, Opens, opened_words}
@@ -30,24 +28,24 @@ use Rattle.bitcask.specs.recovery.Passing.{Tidy, passed_by, Passes}
 
 -- ---- one step with room
 
-pick_some : {A : Type 0} (b : Bool) (x : A) {y : A} → pick b (some x) none ≡ some y → (b ≡ true) × (y ≡ x)
+pick_some : {A : Type 0} (b : Bool) (x : A) {y : A} → pick b (Some x) None ≡ Some y → (b ≡ true) × (y ≡ x)
 pick_some true x e = (refl, cc)
 pick_some false x e = nope (cc)
 
-module _ (cap : ℕ) (i : Item) (f : Found) (ss : List Slot) {r : List Slot} (e : step_in cap i f ss ≡ some r) where
+module _ (cap : ℕ) (i : Item) (f : Result ℕ ℕ) (ss : List Slot) {r : List Slot} (e : step_in cap i f ss ≡ Some r) where
   -- it is the step
   pub step_some : (room_for cap i.gone f (length ss) ≡ true) × (r ≡ step_at i.gone i.slot f ss)
   unfolding step_in
   step_some = pick_some (room_for cap i.gone f (length ss)) (step_at i.gone i.slot f ss) e
 
 -- and keeps within the room
-room_at : (cap : ℕ) (g : Bool) (s : Slot) (f : Found) (ss : List Slot) → room_for cap g f (length ss) ≡ true → Among (length ss) f → length ss ≤ cap → length (step_at g s f ss) ≤ cap
-room_at cap false s (At i) ss e a h = rw (replace_length i s ss a) h
-room_at cap false s (Before i) ss e a h = rw (insert_length i s ss a) (omega (arith, ltb-true (length ss) cap e))
-room_at cap true s (At i) ss e a h = rw (remove_length i ss a) (omega arith)
-room_at cap true s (Before i) ss e a h = h
+room_at : (cap : ℕ) (g : Bool) (s : Slot) (f : Result ℕ ℕ) (ss : List Slot) → room_for cap g f (length ss) ≡ true → Among (length ss) f → length ss ≤ cap → length (step_at g s f ss) ≤ cap
+room_at cap false s (Ok i) ss e a h = rw (replace_length i s ss a) h
+room_at cap false s (Err i) ss e a h = rw (insert_length i s ss a) (omega (arith, ltb-true (length ss) cap e))
+room_at cap true s (Ok i) ss e a h = rw (remove_length i ss a) (omega arith)
+room_at cap true s (Err i) ss e a h = h
 
-pub step_room : (cap : ℕ) (i : Item) (f : Found) (ss : List Slot) {r : List Slot} → step_in cap i f ss ≡ some r → Among (length ss) f → length ss ≤ cap → length r ≤ cap
+pub step_room : (cap : ℕ) (i : Item) (f : Result ℕ ℕ) (ss : List Slot) {r : List Slot} → step_in cap i f ss ≡ Some r → Among (length ss) f → length ss ≤ cap → length r ≤ cap
 step_room cap i f ss e a h =
     let p = step_some cap i f ss e in
     rw p.1 (room_at cap i.gone i.slot f ss p.0 a h)
@@ -62,37 +60,37 @@ all-items log used = let e : used ≡ used - 0 = omega arith in ap (λ (k : ℕ)
 tidy_clear : (log t : List ℕ) → t ≡ replicate (length t) 0 → Tidy log t 0 []
 tidy_clear log t e = record { words = e ∙ table_empty (length t); count = refl; room = omega arith; sorted = sorted_none }
 
-full-none : (o : Option (List Slot)) (a l : ℕ) → passed_by o a l ≡ Full → o ≡ none
-full-none none a l e = refl
-full-none (some ss) a l e = nope (cc)
+full-none : (o : Option (List Slot)) (a l : ℕ) → passed_by o a l ≡ Full → o ≡ None
+full-none None a l e = refl
+full-none (Some ss) a l e = nope (cc)
 
-on_some : (o : Option (List Slot)) (a l b m k : ℕ) → passed_by o a l ≡ On b m k → (ss : List Slot) × (o ≡ some ss) × (a ≡ b)
-on_some none a l b m k e = nope (cc)
-on_some (some ss) a l b m k e = (ss, refl, cc)
+on_some : (o : Option (List Slot)) (a l b m k : ℕ) → passed_by o a l ≡ On b m k → (ss : List Slot) × (o ≡ Some ss) × (a ≡ b)
+on_some None a l b m k e = nope (cc)
+on_some (Some ss) a l b m k e = (ss, refl, cc)
 
-walks_full : (log : List ℕ) (used n : ℕ) (t' : List ℕ) (o : Option (List Slot)) → run log (n / slot_words) (items log used 0) [] ≡ o → o ≡ none
-    → t' ≡ opened_words n o → Walks log used n (Refused TableFull) t'
-walks_full log used n t' none q e w = record { answer = rw q; table = rw q w }
-walks_full log used n t' (some ss) q e w = nope (cc)
+walks_full : (log : List ℕ) (used n : ℕ) (t' : List ℕ) (o : Option (List Slot)) → run log (n / slot_words) (items log used 0) [] ≡ o → o ≡ None
+    → t' ≡ opened_words n o → Walks log used n (Err TableFull) t'
+walks_full log used n t' None q e w = record { answer = rw q; table = rw q w }
+walks_full log used n t' (Some ss) q e w = nope (cc)
 
 walks_done : (log : List ℕ) (used n : ℕ) (t' : List ℕ) (o : Option (List Slot)) (ss : List Slot) (a : ℕ) → run log (n / slot_words) (items log used 0) [] ≡ o
-    → o ≡ some ss → ends 0 (items log used 0) ≡ a → t' ≡ opened_words n o
-    → Walks log used n (Done (record { len = a })) t'
-walks_done log used n t' none ss a q e f w = nope (cc)
-walks_done log used n t' (some rs) ss a q e f w = record { answer = rw (q, f); table = rw q w }
+    → o ≡ Some ss → ends 0 (items log used 0) ≡ a → t' ≡ opened_words n o
+    → Walks log used n (Ok (record { len = a })) t'
+walks_done log used n t' None ss a q e f w = nope (cc)
+walks_done log used n t' (Some rs) ss a q e f w = record { answer = rw (q, f); table = rw q w }
 
 module _ (log : List ℕ) (used : ℕ) (t : List ℕ) (e : t ≡ replicate (length t) 0) {r : Passed} {t' : List ℕ} (w : Passes log used t 0 0 used r t') where
   same : run log (length t / slot_words) (items log used 0) [] ≡ run log (length t / slot_words) (items_of used log used 0) []
   same = ap (λ (is : List Item). run log (length t / slot_words) is []) (sym (all-items log used))
 
-  pub walk_refused : r ≡ Full → Walks log used (length t) (Refused TableFull) t'
+  pub walk_refused : r ≡ Full → Walks log used (length t) (Err TableFull) t'
   walk_refused q =
       let y = tidy_clear log t e in
       walks_full log used (length t) t' (run log (length t / slot_words) (items_of used log used 0) []) same
       (full-none (run log (length t / slot_words) (items_of used log used 0) []) (ends 0 (items_of used log used 0)) (used - length (items_of used log used 0)) (sym
       (w.answer [] y) ∙ q)) (w.table [] y)
 
-  pub walk_done : (a m l : ℕ) → r ≡ On a m l → Walks log used (length t) (Done (record { len = a })) t'
+  pub walk_done : (a m l : ℕ) → r ≡ On a m l → Walks log used (length t) (Ok (record { len = a })) t'
   walk_done a m l q =
       let y = tidy_clear log t e in
       let z = on_some (run log (length t / slot_words) (items_of used log used 0) []) (ends 0 (items_of used log used 0)) (used - length (items_of used log used 0)) a m l
@@ -102,7 +100,7 @@ module _ (log : List ℕ) (used : ℕ) (t : List ℕ) (e : t ≡ replicate (leng
 -- ---- opening, by the test of the sizes and the walk
 
 module _ (log : List ℕ) (used : ℕ) (t : List ℕ) {b : Bool} {t₁ : List ℕ} (e : t₁ ≡ replicate (length t) 0) (l : length t₁ ≡ length t) (f : b ≡ fit (length log) used (length t₁)) where
-  pub open_bad : b ≡ false → Opens log used t (Refused BadRequest) t₁
+  pub open_bad : b ≡ false → Opens log used t (Err BadRequest) t₁
   unfolding open_answer open_table
   open_bad q =
       let p : fit (length log) used (length t) ≡ false = sym (f ∙ ap (fit (length log) used) l) ∙ q in
@@ -115,7 +113,7 @@ module _ (log : List ℕ) (used : ℕ) (t : List ℕ) {b : Bool} {t₁ : List �
     pub open_clear : t₁ ≡ replicate (length t₁) 0
     open_clear = e ∙ ap (λ (n : ℕ). replicate n 0) (sym l)
 
-    pub open_walked : {r : Changed} {t' : List ℕ} → Walks log used (length t₁) r t' → Opens log used t r t'
+    pub open_walked : {r : Result Used Refusal} {t' : List ℕ} → Walks log used (length t₁) r t' → Opens log used t r t'
     unfolding open_answer open_table
     open_walked {r} {t'} w =
         let p : fit (length log) used (length t) ≡ true = sym (f ∙ ap (fit (length log) used) l) ∙ q in

@@ -1,6 +1,8 @@
 -- Entries appended to a log, and the table kept with it. `appended` is what the code does, for any words; `append_answer` judges a whole
 -- list of entries at once and is the only place of 7 and 8, for the engine's calls and for the transactions'. Assumes nothing.
-use Rattle.std.specs.Prelude.{ℕ, ◌+◌, ◌-◌, ◌/◌, List, [], ◌∷◌, ◌++◌, leb, length}
+use Rattle.bitcask.specs.declared.request.Used.{Used}
+use Rattle.keycode.specs.declared.refusal.Refusal.{Refusal}
+use Rattle.std.specs.Prelude.{ℕ, ◌+◌, ◌-◌, ◌/◌, List, [], ◌∷◌, ◌++◌, leb, length, Result, Ok, Err, Option, Some, None, ⊤}
 use Rattle.keycode.specs.Tests.{pick}
 use Rattle.keycode.specs.Buffer.{put}
 use Rattle.keycode.specs.declared.refusal.Refusal.TheVariants.{LogFull, TableFull}
@@ -8,14 +10,6 @@ use Rattle.bitcask.specs.entry.Entry.{Entry, set, del, entry_key, entry_value, b
 use Rattle.bitcask.specs.declared.keydir.slots.Slot.{Slot}
 use Rattle.bitcask.specs.keydir.Slots.{slot_words, slots_of}
 use Rattle.bitcask.specs.keydir.Place.{place_of, entered, cut_at, laid}
-use Rattle.bitcask.specs.declared.request.Changed.{Changed}
-use Rattle.bitcask.specs.declared.request.Changed.TheVariants as Change
-use Rattle.bitcask.specs.declared.keydir.place.Found.{Found}
-use Rattle.bitcask.specs.declared.keydir.place.Found.TheVariants.{At, Before}
-use Rattle.bitcask.specs.declared.append.Room.{Room}
-use Rattle.bitcask.specs.declared.append.Room.TheVariants.{Left, Full}
-use Rattle.bitcask.specs.declared.append.Check.{Check}
-use Rattle.bitcask.specs.declared.append.Check.TheVariants.{Fine, Refused}
 use Rattle.bitcask.specs.recovery.Map.{Pair, after}
 use Rattle.bitcask.specs.recovery.Recover.{map_of}
 
@@ -50,19 +44,19 @@ appended s e =
 -- ---- the room test, as the code makes it
 
 -- the room that an entry leaves
-abbrev pub room_after : Room → ℕ → ℕ → Room
-room_after Full k v = Full
-room_after (Left n) k v = pick (leb (8 + k + v) n) (Left (n - (8 + k + v))) Full
+abbrev pub room_after : Option ℕ → ℕ → ℕ → Option ℕ
+room_after None k v = None
+room_after (Some n) k v = pick (leb (8 + k + v) n) (Some (n - (8 + k + v))) None
 
 -- 7 where there is no room, then 8 where the new keys exceed the free slots
-abbrev pub judge : Room → ℕ → ℕ → Check
-judge Full fresh free = Refused LogFull
-judge (Left n) fresh free = pick (leb fresh free) Fine (Refused TableFull)
+abbrev pub judge : Option ℕ → ℕ → ℕ → Result ⊤ Refusal
+judge None fresh free = Err LogFull
+judge (Some n) fresh free = pick (leb fresh free) (Ok tt) (Err TableFull)
 
 -- how many slots a key wants
-abbrev pub wants : Found → ℕ
-wants (At i) = 0
-wants (Before i) = 1
+abbrev pub wants : Result ℕ ℕ → ℕ
+wants (Ok i) = 0
+wants (Err i) = 1
 
 unfoldable pub fresh_in : List ℕ → List ℕ → List Slot → ℕ
 fresh_in log key ss = wants (place_of log key ss)
@@ -83,8 +77,8 @@ after_all (e ∷ es) m = after_all es (after e m)
 
 -- 7 where their bytes exceed the room left, then 8 where their keys exceed the table's slots; else the new used length. A list holds
 -- sets alone or tombstones alone, so that the keys are most at its end.
-unfoldable pub append_answer : List ℕ → ℕ → ℕ → List Entry → Changed
+unfoldable pub append_answer : List ℕ → ℕ → ℕ → List Entry → Result Used Refusal
 append_answer log used words es =
     pick (leb (used + size_all es) (length log))
-    (pick (leb (length (after_all es (map_of log used))) (words / slot_words)) (Change.Done (record { len = used + size_all es })) (Change.Refused TableFull))
-    (Change.Refused LogFull)
+    (pick (leb (length (after_all es (map_of log used))) (words / slot_words)) (Ok (record { len = used + size_all es })) (Err TableFull))
+    (Err LogFull)

@@ -1,13 +1,11 @@
 -- What a compaction writes and what the status counts: both of the map. Document 01, 'Log entries and recovery'. Assumes nothing.
-use Rattle.std.specs.Prelude.{ℕ, ◌+◌, ◌*◌, ◌≡◌, List, [], ◌∷◌, leb, length}
+use Rattle.std.specs.Prelude.{ℕ, ◌+◌, ◌*◌, ◌≡◌, List, [], ◌∷◌, leb, length, Option, Some, None}
 use Rattle.keycode.specs.Tests.{pick}
 use Rattle.keycode.specs.Buffer.{put}
 use Rattle.bitcask.specs.entry.Entry.{Entry, set, bytes_of, size_of}
 use Rattle.bitcask.specs.declared.keydir.slots.Slot.{Slot}
 use Rattle.bitcask.specs.keydir.Slots.{slot_words, words_of, key_of, value_of}
 use Rattle.bitcask.specs.recovery.Map.{Pair}
-use Rattle.bitcask.specs.declared.report.Sum.{Sum}
-use Rattle.bitcask.specs.declared.report.Sum.TheVariants.{Total, Over}
 use Rattle.bitcask.specs.change.Append.{slot_of, size_all, bytes_all}
 
 -- the entries of a map, in key order
@@ -21,8 +19,8 @@ contents [] = 0
 contents (q ∷ m) = length q.key + length q.value + contents m
 
 -- a sum, as far as it is no more than a cap
-unfoldable pub capped : ℕ → ℕ → Sum
-capped cap n = pick (leb n cap) (Total n) Over
+unfoldable pub capped : ℕ → ℕ → Option ℕ
+capped cap n = pick (leb n cap) (Some n) None
 
 -- ---- entries moved into another log, one behind the other from its front on
 

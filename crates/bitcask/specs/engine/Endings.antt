@@ -1,13 +1,12 @@
 -- Rows ended with tombstones: what the code does to any table. Where the rows' keys rise and lie in the entries it is `appended` of the
 -- tombstones, one after the other (EndLaws). Assumes nothing.
-use Rattle.std.specs.Prelude.{ℕ, ◌+◌, List, [], ◌∷◌, leb, ltb, length, take, drop}
+use Rattle.std.specs.Prelude.{ℕ, ◌+◌, List, [], ◌∷◌, leb, ltb, length, take, drop, Option}
 use Rattle.keycode.specs.Tests.{pick}
 use Rattle.keycode.specs.Buffer.{put}
 use Rattle.bitcask.specs.entry.Entry.{Entry, del, bytes_of}
 use Rattle.bitcask.specs.declared.keydir.slots.Slot.{Slot}
 use Rattle.bitcask.specs.keydir.Slots.{slots_of, key_of, remove_span}
 use Rattle.bitcask.specs.keydir.Place.{laid}
-use Rattle.bitcask.specs.declared.append.Room.{Room}
 use Rattle.bitcask.specs.change.Append.{State, appended, room_after}
 use Rattle.bitcask.specs.engine.Rows.{Row}
 
@@ -19,7 +18,7 @@ tombstones [] = []
 tombstones (r ∷ rs) = del r.key ∷ tombstones rs
 
 -- the room that they leave
-unfoldable pub room_tombs : Room → List Row → Room
+unfoldable pub room_tombs : Option ℕ → List Row → Option ℕ
 room_tombs room [] = room
 room_tombs room (r ∷ rs) = room_tombs (room_after room (length r.key) 0) rs
 

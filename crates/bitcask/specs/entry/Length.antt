@@ -1,19 +1,17 @@
 -- The value length that 32 bits of an entry state. Document 01, 'Log entries and recovery': any negative one is a tombstone.
 -- `len_of` is the only place where the sign is tested. Assumes nothing.
-use Rattle.std.specs.Prelude.{ℕ, suc, ◌-◌, ◌^◌, ltb, ℤ, pos, negsuc}
+use Rattle.std.specs.Prelude.{ℕ, suc, ◌-◌, ◌^◌, ltb, ℤ, pos, negsuc, Option, Some, None}
 use Rattle.keycode.specs.Tests.{pick}
-use Rattle.bitcask.specs.declared.entry.length.Len.{Len}
-use Rattle.bitcask.specs.declared.entry.length.Len.TheVariants.{Bytes, Gone}
 
 -- 32 bits as two's complement
 unfoldable pub signed_of : ℕ → ℤ
 signed_of n = pick (ltb n (2 ^ 31)) (pos n) (negsuc (2 ^ 32 - suc n))
 
 -- the sign test
-unfoldable pub len_of : ℤ → Len
-len_of (pos n) = Bytes n
-len_of (negsuc n) = Gone
+unfoldable pub len_of : ℤ → Option ℕ
+len_of (pos n) = Some n
+len_of (negsuc n) = None
 
-unfoldable pub length_of : ℕ → Len
+unfoldable pub length_of : ℕ → Option ℕ
 unfolding signed_of len_of
 length_of n = len_of (signed_of n)

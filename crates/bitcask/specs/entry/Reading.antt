@@ -1,10 +1,8 @@
 -- What stands at an offset of a log of which `used` bytes count. Document 01, 'Log entries and recovery': an entry that ends exactly
 -- at the used length is whole, one that runs past it is none. Assumes nothing.
-use Rattle.std.specs.Prelude.{ℕ, ◌+◌, List, leb, length, take, drop}
+use Rattle.std.specs.Prelude.{ℕ, ◌+◌, List, leb, length, take, drop, Option, Some, None}
 use Rattle.keycode.specs.Tests.{pick}
 use Rattle.keycode.specs.Number.{num}
-use Rattle.bitcask.specs.declared.entry.length.Len.{Len}
-use Rattle.bitcask.specs.declared.entry.length.Len.TheVariants.{Bytes, Gone}
 use Rattle.bitcask.specs.declared.entry.read.Read.{Read}
 use Rattle.bitcask.specs.declared.entry.read.Read.TheVariants.{Set, Del, Stop}
 use Rattle.bitcask.specs.entry.Length.{length_of}
@@ -15,9 +13,9 @@ unfoldable pub word_at : List ℕ → ℕ → ℕ
 word_at log at = num (take 4 (drop at log))
 
 -- the entry of a key length and a value length
-abbrev pub headed : ℕ → Len → Read
-headed k (Bytes n) = Set k n
-headed k Gone = Del k
+abbrev pub headed : ℕ → Option ℕ → Read
+headed k (Some n) = Set k n
+headed k None = Del k
 
 -- how many bytes it has, its header counted; none where nothing whole stands
 abbrev pub size_read : Read → ℕ

@@ -1,7 +1,6 @@
 -- Changes that wait beside a table. A waiting slot is a new one, or, with a value length that no entry has, the mark that its key is to
 -- go. What table and changes stand for together is said key by key. Assumes nothing.
-use Rattle.std.specs.Prelude.{ℕ, ◌+◌, ◌≡◌, Bool, List, [], ◌∷◌, eqb}
-use Rattle.std.proofs.Math.Option.{Option, none, some}
+use Rattle.std.specs.Prelude.{ℕ, ◌+◌, ◌≡◌, Bool, List, [], ◌∷◌, eqb, Option, None, Some}
 use Rattle.keycode.specs.Tests.{pick}
 use Rattle.keycode.specs.Order.{compare_bytes, by_order}
 use Rattle.bitcask.specs.declared.keydir.slots.Slot.{Slot}
@@ -10,8 +9,8 @@ use Rattle.bitcask.specs.keydir.Place.{place_in, index_of, cut_at, Sorted}
 
 -- the slot of a key
 unfoldable pub look : List ℕ → List ℕ → List Slot → Option Slot
-look log k [] = none
-look log k (s ∷ ss) = by_order (compare_bytes (key_of log s) k) (look log k ss) (some s) none
+look log k [] = None
+look log k (s ∷ ss) = by_order (compare_bytes (key_of log s) k) (look log k ss) (Some s) None
 
 abbrev pub gone_mark : ℕ
 gone_mark = 4294967295
@@ -22,8 +21,8 @@ is_gone s = eqb s.vlen gone_mark
 
 -- what a waiting slot makes of a key's slot
 abbrev pub overlay : Option Slot → Option Slot → Option Slot
-overlay none o = o
-overlay (some s) o = pick (is_gone s) none (some s)
+overlay None o = o
+overlay (Some s) o = pick (is_gone s) None (Some s)
 
 -- the slots r are those of the table, ss, with those that wait, ps
 pub record Merges (log : List ℕ) (ps ss r : List Slot) : Type 0 where

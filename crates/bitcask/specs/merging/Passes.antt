@@ -1,10 +1,8 @@
 -- What the passes over a table leave: for any words, and, where the keys of table and changes rise, what the changes make of the slots.
 -- Assumes nothing.
-use Rattle.std.specs.Prelude.{ℕ, suc, ◌+◌, ◌-◌, ◌*◌, ◌/◌, ◌≤◌, ◌≡◌, List, [], ◌∷◌, ◌++◌, length, take, drop}
+use Rattle.std.specs.Prelude.{ℕ, suc, ◌+◌, ◌-◌, ◌*◌, ◌/◌, ◌≤◌, ◌≡◌, List, [], ◌∷◌, ◌++◌, length, take, drop, Result, Ok, Err}
 use Rattle.keycode.specs.Tests.{pick}
 use Rattle.bitcask.specs.declared.keydir.slots.Slot.{Slot}
-use Rattle.bitcask.specs.declared.keydir.place.Found.{Found}
-use Rattle.bitcask.specs.declared.keydir.place.Found.TheVariants.{At, Before}
 use Rattle.bitcask.specs.keydir.Slots.{slot_words, slots_of, words_of, key_of}
 use Rattle.bitcask.specs.keydir.Place.{place_of, index_of, Sorted, Becomes}
 use Rattle.bitcask.specs.merging.Merge.{is_gone, cuts, lays, merged, new_of, news}
@@ -14,13 +12,13 @@ unfoldable pub behind : List ℕ → ℕ → ℕ → List Slot
 behind t i n = slots_of (n - i) (drop (slot_words * i) t)
 
 -- how many slots stay before a key's slot that goes, and how many are passed by then
-abbrev pub kept_by : Found → ℕ
-kept_by (At j) = j
-kept_by (Before j) = 0
+abbrev pub kept_by : Result ℕ ℕ → ℕ
+kept_by (Ok j) = j
+kept_by (Err j) = 0
 
-abbrev pub passed_by : Found → ℕ
-passed_by (At j) = suc j
-passed_by (Before j) = 0
+abbrev pub passed_by : Result ℕ ℕ → ℕ
+passed_by (Ok j) = suc j
+passed_by (Err j) = 0
 
 -- a key's slot behind a gap has been taken out
 pub record TakesOne (log t : List ℕ) (n to from : ℕ) (key : List ℕ) (to' from' : ℕ) (t' : List ℕ) : Type 0 where

@@ -1,14 +1,11 @@
 -- Ranks of keys and bounds of scans, of slots as the code finds them and of the map in document 01's words. A lower bound is the number
 -- of the first pair that it admits, an upper one the number past the last; a scan step gives the first number that lies between.
 -- Assumes nothing.
-use Rattle.std.specs.Prelude.{ℕ, suc, ◌+◌, Bool, true, false, List, [], ◌∷◌, length}
-use Rattle.std.proofs.Math.Option.{Option, none, some}
+use Rattle.std.specs.declared.cmp.Ordering.{Ordering}
+use Rattle.std.specs.Prelude.{ℕ, suc, ◌+◌, Bool, true, false, List, [], ◌∷◌, length, Result, Ok, Err, Option, None, Some}
 use Rattle.keycode.specs.Tests.{pick}
 use Rattle.keycode.specs.Order.{compare_bytes, by_order}
-use Rattle.keycode.specs.declared.order.Order.{Order}
 use Rattle.bitcask.specs.declared.keydir.slots.Slot.{Slot}
-use Rattle.bitcask.specs.declared.keydir.place.Found.{Found}
-use Rattle.bitcask.specs.declared.keydir.place.Found.TheVariants.{At, Before}
 use Rattle.bitcask.specs.keydir.Place.{place_of}
 use Rattle.bitcask.specs.recovery.Map.{Pair}
 use Rattle.bitcask.specs.declared.answers.Bound.{Bound}
@@ -16,13 +13,13 @@ use Rattle.bitcask.specs.declared.answers.Bound.TheVariants.{Included, Excluded,
 
 -- ---- of slots: how many keys are below one, by the place that the search finds; how many are below it or the same
 
-abbrev pub before_at : Found → ℕ
-before_at (At i) = i
-before_at (Before i) = i
+abbrev pub before_at : Result ℕ ℕ → ℕ
+before_at (Ok i) = i
+before_at (Err i) = i
 
-abbrev pub through_at : Found → ℕ
-through_at (At i) = i + 1
-through_at (Before i) = i
+abbrev pub through_at : Result ℕ ℕ → ℕ
+through_at (Ok i) = i + 1
+through_at (Err i) = i
 
 unfoldable pub below : List ℕ → List ℕ → List Slot → ℕ
 below log key ss = before_at (place_of log key ss)
@@ -43,12 +40,12 @@ upto_bound Unbounded log key ss = length ss
 
 -- ---- of the map: what a bound admits, and the first pair that a test does
 
-abbrev pub admits_low : Bound → Order → Bool
+abbrev pub admits_low : Bound → Ordering → Bool
 admits_low Included o = by_order o false true true
 admits_low Excluded o = by_order o false false true
 admits_low Unbounded o = true
 
-abbrev pub admits_high : Bound → Order → Bool
+abbrev pub admits_high : Bound → Ordering → Bool
 admits_high Included o = by_order o true true false
 admits_high Excluded o = by_order o true false false
 admits_high Unbounded o = true
@@ -65,5 +62,5 @@ admitted lower low upper high given last k =
 
 -- the number of the first pair whose key a test admits, counted from i
 unfoldable pub first_of : (List ℕ → Bool) → ℕ → List Pair → Option ℕ
-first_of p i [] = none
-first_of p i (q ∷ m) = pick (p q.key) (some i) (first_of p (suc i) m)
+first_of p i [] = None
+first_of p i (q ∷ m) = pick (p q.key) (Some i) (first_of p (suc i) m)

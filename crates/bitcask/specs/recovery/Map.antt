@@ -1,10 +1,9 @@
 -- The map of a store: pairs of a key and its value, the keys strictly rising. Everything above the log speaks of this map and never of
 -- the table's words. Assumes nothing.
-use Rattle.std.proofs.Math.Option.{Option, none, some}
-use Rattle.std.specs.Prelude.{Bool, true, false, List, [], ◌∷◌, ◌≡◌, ℕ}
+use Rattle.std.specs.declared.cmp.Ordering.TheVariants.{Less}
+use Rattle.std.specs.Prelude.{Bool, true, false, List, [], ◌∷◌, ◌≡◌, ℕ, Option, None, Some}
 use Rattle.keycode.specs.Tests.{pick}
 use Rattle.keycode.specs.Order.{compare_bytes, by_order}
-use Rattle.keycode.specs.declared.order.Order.TheVariants.{Less}
 use Rattle.bitcask.specs.entry.Entry.{Entry, set, del}
 use Rattle.bitcask.specs.keydir.Place.{All}
 
@@ -14,12 +13,12 @@ pub record Pair : Type 0 where
 
 -- the value of a key
 unfoldable pub look_in : List ℕ → List Pair → Option (List ℕ)
-look_in k [] = none
-look_in k (q ∷ m) = by_order (compare_bytes q.key k) (look_in k m) (some q.value) none
+look_in k [] = None
+look_in k (q ∷ m) = by_order (compare_bytes q.key k) (look_in k m) (Some q.value) None
 
 abbrev pub is_some : Option (List ℕ) → Bool
-is_some none = false
-is_some (some v) = true
+is_some None = false
+is_some (Some v) = true
 
 -- whether a key has one
 unfoldable pub live_in : List ℕ → List Pair → Bool

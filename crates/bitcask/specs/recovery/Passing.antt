@@ -1,7 +1,6 @@
 -- At most so many entries of a log passed, from an offset on: an equation over the run of the entries passed, for a table of slots whose
 -- keys rise and zeros. Assumes nothing.
-use Rattle.std.specs.Prelude.{ℕ, ◌-◌, ◌*◌, ◌/◌, ◌≤◌, ◌≡◌, List, length}
-use Rattle.std.proofs.Math.Option.{Option, none, some}
+use Rattle.std.specs.Prelude.{ℕ, ◌-◌, ◌*◌, ◌/◌, ◌≤◌, ◌≡◌, List, length, Option, None, Some}
 use Rattle.bitcask.specs.entry.Reading.{entry_at}
 use Rattle.bitcask.specs.declared.keydir.slots.Slot.{Slot}
 use Rattle.bitcask.specs.keydir.Slots.{slot_words, table_of}
@@ -17,8 +16,8 @@ use Rattle.bitcask.specs.recovery.Promises.{opened_words}
 
 -- what stands at an offset has been taken
 pub record TakesEntry (log : List ℕ) (used : ℕ) (t pd : List ℕ) (h : Held) (at : ℕ) (o : Took) (t' pd' : List ℕ) : Type 0 where
-  pub entry : (i : Item) → item_of (entry_at log used at) at ≡ some i → Enters log t pd h i (next i) o t' pd'
-  pub stop : item_of (entry_at log used at) at ≡ none → (o ≡ Over) × (t' ≡ t) × (pd' ≡ pd)
+  pub entry : (i : Item) → item_of (entry_at log used at) at ≡ Some i → Enters log t pd h i (next i) o t' pd'
+  pub stop : item_of (entry_at log used at) at ≡ None → (o ≡ Over) × (t' ≡ t) × (pd' ≡ pd)
 
 -- a table of slots whose keys rise, and zeros
 pub record Tidy (log t : List ℕ) (n : ℕ) (ss : List Slot) : Type 0 where
@@ -29,8 +28,8 @@ pub record Tidy (log t : List ℕ) (n : ℕ) (ss : List Slot) : Type 0 where
 
 -- the answer, by the slots that the entries leave, the offset past the last and how many more might have been passed
 abbrev pub passed_by : Option (List Slot) → ℕ → ℕ → Passed
-passed_by none at left = Full
-passed_by (some ss) at left = On at (length ss) left
+passed_by None at left = Full
+passed_by (Some ss) at left = On at (length ss) left
 
 pub record Passes (log : List ℕ) (used : ℕ) (t : List ℕ) (n at most : ℕ) (r : Passed) (t' : List ℕ) : Type 0 where
   pub within : (a m l : ℕ) → r ≡ On a m l → (a ≤ used) × (slot_words * m ≤ length t)

@@ -1,16 +1,13 @@
 -- Recovery. Document 01, 'Log entries and recovery': the entries from offset 0 on, up to the first that runs past the used length; a
 -- later entry of a key replaces an earlier one, a tombstone removes it. `recovered` is what everything else cites: it has no room to
 -- run out of. `run` is the same with room for so many slots, which only the opening knows. Assumes nothing.
-use Rattle.std.specs.Prelude.{ℕ, zero, suc, ◌+◌, ◌-◌, Bool, true, false, List, [], ◌∷◌, leb, ltb, length}
-use Rattle.std.proofs.Math.Option.{Option, none, some}
+use Rattle.std.specs.Prelude.{ℕ, zero, suc, ◌+◌, ◌-◌, Bool, true, false, List, [], ◌∷◌, leb, ltb, length, Result, Ok, Err, Option, None, Some}
 use Rattle.keycode.specs.Tests.{pick}
 use Rattle.bitcask.specs.declared.entry.read.Read.{Read}
 use Rattle.bitcask.specs.declared.entry.read.Read.TheVariants.{Set, Del, Stop}
 use Rattle.bitcask.specs.entry.Entry.{Entry, set, del}
 use Rattle.bitcask.specs.entry.Reading.{entry_at}
 use Rattle.bitcask.specs.declared.keydir.slots.Slot.{Slot}
-use Rattle.bitcask.specs.declared.keydir.place.Found.{Found}
-use Rattle.bitcask.specs.declared.keydir.place.Found.TheVariants.{At, Before}
 use Rattle.bitcask.specs.keydir.Slots.{key_of, value_of}
 use Rattle.bitcask.specs.keydir.Place.{place_in, put_at, cut_at}
 use Rattle.bitcask.specs.recovery.Map.{Pair}
@@ -23,17 +20,17 @@ pub record Item : Type 0 where
   pub gone : Bool
 
 abbrev pub item_of : Read → ℕ → Option Item
-item_of (Set k v) at = some (record { slot = record { place = at + 1; klen = k; vlen = v }; gone = false })
-item_of (Del k) at = some (record { slot = record { place = at + 1; klen = k; vlen = 0 }; gone = true })
-item_of Stop at = none
+item_of (Set k v) at = Some (record { slot = record { place = at + 1; klen = k; vlen = v }; gone = false })
+item_of (Del k) at = Some (record { slot = record { place = at + 1; klen = k; vlen = 0 }; gone = true })
+item_of Stop at = None
 
 -- the offset past an entry
 abbrev pub next : Item → ℕ
 next i = i.slot.place + 7 + i.slot.klen + i.slot.vlen
 
 abbrev pub and_on : Option Item → (ℕ → List Item) → List Item
-and_on none f = []
-and_on (some i) f = i ∷ f (next i)
+and_on None f = []
+and_on (Some i) f = i ∷ f (next i)
 
 -- at most so many, from an offset on
 unfoldable pub items_of : ℕ → List ℕ → ℕ → ℕ → List Item
@@ -61,7 +58,7 @@ item_for at (del k) = record { slot = record { place = at + 1; klen = length k; 
 
 -- ---- what they leave
 
-abbrev pub step_at : Bool → Slot → Found → List Slot → List Slot
+abbrev pub step_at : Bool → Slot → Result ℕ ℕ → List Slot → List Slot
 step_at false s f ss = put_at s f ss
 step_at true s f ss = cut_at f ss
 
@@ -94,19 +91,19 @@ map_of log used = view log (recovered log used)
 -- ---- with room for so many slots
 
 -- of n slots in use: a new key wants a free one
-abbrev pub room_for : ℕ → Bool → Found → ℕ → Bool
+abbrev pub room_for : ℕ → Bool → Result ℕ ℕ → ℕ → Bool
 room_for cap true f n = true
-room_for cap false (At i) n = true
-room_for cap false (Before i) n = ltb n cap
+room_for cap false (Ok i) n = true
+room_for cap false (Err i) n = ltb n cap
 
 -- what an entry does to the slots at the place of its key
-unfoldable pub step_in : ℕ → Item → Found → List Slot → Option (List Slot)
-step_in cap i f ss = pick (room_for cap i.gone f (length ss)) (some (step_at i.gone i.slot f ss)) none
+unfoldable pub step_in : ℕ → Item → Result ℕ ℕ → List Slot → Option (List Slot)
+step_in cap i f ss = pick (room_for cap i.gone f (length ss)) (Some (step_at i.gone i.slot f ss)) None
 
 abbrev pub then_run : Option (List Slot) → (List Slot → Option (List Slot)) → Option (List Slot)
-then_run none f = none
-then_run (some ss) f = f ss
+then_run None f = None
+then_run (Some ss) f = f ss
 
 unfoldable pub run : List ℕ → ℕ → List Item → List Slot → Option (List Slot)
-run log cap [] ss = some ss
+run log cap [] ss = Some ss
 run log cap (i ∷ is) ss = then_run (step_in cap i (place_in log (key_of log i.slot) ss) ss) (λ r. run log cap is r)

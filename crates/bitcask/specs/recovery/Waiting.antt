@@ -1,10 +1,7 @@
 -- A table beside which changes wait: what both stand for together, and what an entry and the pass that brings the changes in make of
 -- it. Assumes nothing.
-use Rattle.std.specs.Prelude.{ℕ, ◌+◌, ◌*◌, ◌/◌, ◌≤◌, ◌≡◌, Bool, false, List, length, get_or}
-use Rattle.std.proofs.Math.Option.{Option, none, some}
+use Rattle.std.specs.Prelude.{ℕ, ◌+◌, ◌*◌, ◌/◌, ◌≤◌, ◌≡◌, Bool, false, List, length, get_or, Result, Ok, Err, Option, None, Some}
 use Rattle.bitcask.specs.declared.keydir.slots.Slot.{Slot}
-use Rattle.bitcask.specs.declared.keydir.place.Found.{Found}
-use Rattle.bitcask.specs.declared.keydir.place.Found.TheVariants.{At, Before}
 use Rattle.bitcask.specs.keydir.Slots.{slot_words, free_slot, slots_of, table_of, key_of}
 use Rattle.bitcask.specs.keydir.Place.{place_in, cut_at}
 use Rattle.bitcask.specs.merging.Merge.{is_gone, Merges}
@@ -18,9 +15,9 @@ abbrev pub max_waiting : ℕ
 max_waiting = 256
 
 -- whether what waits at a place takes its key out
-abbrev pub waits_gone : List Slot → Found → Bool
-waits_gone ps (At i) = is_gone (get_or ps i free_slot)
-waits_gone ps (Before i) = false
+abbrev pub waits_gone : List Slot → Result ℕ ℕ → Bool
+waits_gone ps (Ok i) = is_gone (get_or ps i free_slot)
+waits_gone ps (Err i) = false
 
 -- table and changes stand for the slots r, which the table has room for
 pub record Holds (log t pd : List ℕ) (h : Held) (r : List Slot) : Type 0 where
@@ -31,8 +28,8 @@ pub record Holds (log t pd : List ℕ) (h : Held) (r : List Slot) : Type 0 where
 
 -- what came of an entry, by what it makes of the slots
 pub data Answers (log t pd : List ℕ) (end : ℕ) : Took → Option (List Slot) → Type 0 where
-  answers-full : Answers log t pd end Full none
-  answers_next : {h : Held} {r : List Slot} → Holds log t pd h r → Answers log t pd end (Next end h) (some r)
+  answers-full : Answers log t pd end Full None
+  answers_next : {h : Held} {r : List Slot} → Holds log t pd h r → Answers log t pd end (Next end h) (Some r)
 
 -- an entry that ends at an offset has been taken
 pub record Enters (log t pd : List ℕ) (h : Held) (i : Item) (end : ℕ) (o : Took) (t' pd' : List ℕ) : Type 0 where

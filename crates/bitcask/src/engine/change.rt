@@ -8,18 +8,18 @@ ghost use Rattle.bitcask.specs.engine.Sets.{spot_place, set_at, up_by};
 
 use crate::append::{Mark as End, append_del as append_tomb};
 use crate::engine::mark::Mark;
-use crate::engine::spot::{Found, Spot};
+use crate::engine::spot::Spot;
 use crate::entry::put_set;
-use crate::keydir::{Found as Place, Slot, enter};
+use crate::keydir::{Slot, enter};
 use crate::request::Used;
 
 // A place that was found, as the table knows it.
-fn place_of(found: Found) -> Place
+fn place_of(found: Result<Spot, Spot>) -> Result<usize, usize>
     ensures { result ≡ spot_place found }
 {
     match found {
-        Found::At(p) => Place::At(p.number),
-        Found::Absent(p) => Place::Before(p.number),
+        Ok(p) => Ok(p.number),
+        Err(p) => Err(p.number),
     }
 }
 
@@ -33,12 +33,12 @@ pub(crate) fn moved(used: Used, len: usize) -> Used
 }
 
 // How many rows a set of a key adds.
-pub fn wants(found: Found) -> usize
+pub fn wants(found: Result<Spot, Spot>) -> usize
     ensures { result ≡ wants_by (spot_place found) }
 {
     match found {
-        Found::At(_) => 0,
-        Found::Absent(_) => 1,
+        Ok(_) => 0,
+        Err(_) => 1,
     }
 }
 
@@ -47,7 +47,7 @@ pub fn append_set(
     log: &mut [u8],
     table: &mut [u32],
     mark: Mark,
-    found: Found,
+    found: Result<Spot, Spot>,
     key: &[u8],
     head: &[u8],
     body: &[u8],
@@ -94,16 +94,16 @@ pub fn append_del(log: &mut [u8], table: &mut [u32], mark: Mark, key: &[u8]) -> 
 }
 
 // The place of a key when a lesser one was set: as far on as rows were added.
-pub fn behind(before: Mark, after: Mark, found: Found) -> Found
+pub fn behind(before: Mark, after: Mark, found: Result<Spot, Spot>) -> Result<Spot, Spot>
     requires { (before.count ≤ after.count) × (Among before.count (spot_place found)) }
     ensures { spot_place result ≡ up_by (after.count - before.count) (spot_place found) }
 {
     let more = after.count - before.count;
     match found {
-        Found::At(p) => Found::At(Spot {
+        Ok(p) => Ok(Spot {
             number: p.number + more,
         }),
-        Found::Absent(p) => Found::Absent(Spot {
+        Err(p) => Err(Spot {
             number: p.number + more,
         }),
     }

@@ -13,20 +13,14 @@ pub struct Mark {
     pub count: usize,
 }
 
-#[derive(Clone, Copy)]
-pub enum Entered {
-    In(Mark),
-    Refused(Refusal),
-}
-
 // 13 where the sizes are not those of a store.
-pub fn enter(log: &[u8], used: Used, table: &[u32]) -> Entered
+pub fn enter(log: &[u8], used: Used, table: &[u32]) -> Result<Mark, Refusal>
     ensures { result ≡ entered_by log.now used table.now }
 {
     let good = fits(log.len(), used.len, table.len());
     if !good {
-        return Entered::Refused(Refusal::BadRequest);
+        return Err(Refusal::BadRequest);
     }
     let n = count(table);
-    Entered::In(Mark { used, count: n })
+    Ok(Mark { used, count: n })
 }

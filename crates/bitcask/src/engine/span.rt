@@ -8,7 +8,7 @@ ghost use Rattle.bitcask.specs.engine.Prefixes.{prefix_most, Prefixes};
 ghost use Rattle.bitcask.specs.engine.Endings.{room_tombs};
 
 use crate::answers::Bound;
-use crate::append::{Room, room_after};
+use crate::append::room_after;
 use crate::engine::mark::Mark;
 use crate::engine::row::key_at;
 use crate::engine::spot::{Spot, first, past};
@@ -86,7 +86,13 @@ pub fn rows_in(log: &[u8], table: &[u32], mark: Mark, span: Span) -> usize
 }
 
 // The room that the tombstones of a span's rows leave. It stops at the log's end, so that no sum of forged lengths can wrap.
-pub fn span_room(log: &[u8], table: &[u32], mark: Mark, room: Room, span: Span) -> Room
+pub fn span_room(
+    log: &[u8],
+    table: &[u32],
+    mark: Mark,
+    room: Option<usize>,
+    span: Span,
+) -> Option<usize>
     requires { (Held log.now table.now mark) × (rank span.to (rows log.now table.now mark) ≤ length (rows log.now table.now mark)) }
     ensures { result ≡ room_tombs room (between span.from span.to (rows log.now table.now mark)) }
 {

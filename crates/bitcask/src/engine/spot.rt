@@ -6,7 +6,7 @@ ghost use Rattle.bitcask.specs.engine.Spots.{rank, placed, place_by, from_rank, 
 
 use crate::answers::Bound;
 use crate::engine::mark::Mark;
-use crate::keydir::{Found as Place, find as find_slot};
+use crate::keydir::find as find_slot;
 use crate::rank::{from_bound, upto_bound};
 
 #[derive(Clone, Copy)]
@@ -14,21 +14,14 @@ pub struct Spot {
     pub(crate) number: usize,
 }
 
-// The row that has a key, or the one before which the key belongs.
-#[derive(Clone, Copy)]
-pub enum Found {
-    At(Spot),
-    Absent(Spot),
-}
-
 // Where a key is, or belongs.
-pub fn find(log: &[u8], table: &[u32], mark: Mark, key: &[u8]) -> Found
+pub fn find(log: &[u8], table: &[u32], mark: Mark, key: &[u8]) -> Result<Spot, Spot>
     requires { Held log.now table.now mark }
     ensures { placed result (rows log.now table.now mark) ≡ place_by key.now (rows log.now table.now mark) }
 {
     match find_slot(log, table, mark.count, key) {
-        Place::At(i) => Found::At(Spot { number: i }),
-        Place::Before(i) => Found::Absent(Spot { number: i }),
+        Ok(i) => Ok(Spot { number: i }),
+        Err(i) => Err(Spot { number: i }),
     }
 }
 

@@ -10,46 +10,40 @@ use crate::answers::Bound;
 use crate::engine::mark::Mark;
 use crate::engine::row::key_at;
 use crate::engine::spot::Spot;
-use keycode::{Order, compare};
+use keycode::compare;
+use std::cmp::Ordering;
 
-// A row beside a place, or none that the bound admits.
-#[derive(Clone, Copy)]
-pub enum Near {
-    At(Spot),
-    None,
-}
-
-fn admits_low(bound: Bound, o: Order) -> bool
+fn admits_low(bound: Bound, o: Ordering) -> bool
     ensures { result ≡ admits_low_by bound o }
 {
     match bound {
         Bound::Included => match o {
-            Order::Less => false,
-            Order::Equal => true,
-            Order::Greater => true,
+            Ordering::Less => false,
+            Ordering::Equal => true,
+            Ordering::Greater => true,
         },
         Bound::Excluded => match o {
-            Order::Less => false,
-            Order::Equal => false,
-            Order::Greater => true,
+            Ordering::Less => false,
+            Ordering::Equal => false,
+            Ordering::Greater => true,
         },
         Bound::Unbounded => true,
     }
 }
 
-fn admits_high(bound: Bound, o: Order) -> bool
+fn admits_high(bound: Bound, o: Ordering) -> bool
     ensures { result ≡ admits_high_by bound o }
 {
     match bound {
         Bound::Included => match o {
-            Order::Less => true,
-            Order::Equal => true,
-            Order::Greater => false,
+            Ordering::Less => true,
+            Ordering::Equal => true,
+            Ordering::Greater => false,
         },
         Bound::Excluded => match o {
-            Order::Less => true,
-            Order::Equal => false,
-            Order::Greater => false,
+            Ordering::Less => true,
+            Ordering::Equal => false,
+            Ordering::Greater => false,
         },
         Bound::Unbounded => true,
     }
@@ -63,22 +57,22 @@ pub fn row_before(
     spot: Spot,
     lower: Bound,
     low: &[u8],
-) -> Near
+) -> Option<Spot>
     requires { (Held log.now table.now mark) × (rank spot (rows log.now table.now mark) ≤ length (rows log.now table.now mark)) }
     ensures { near_rank result (rows log.now table.now mark)
         ≡ before_in lower low.now (rows log.now table.now mark) (rank spot (rows log.now table.now mark)) }
 {
     if spot.number == 0 {
-        return Near::None;
+        return None;
     }
     let before = Spot {
         number: spot.number - 1,
     };
     let o = compare(key_at(log, table, mark, before), low);
     if admits_low(lower, o) {
-        return Near::At(before);
+        return Some(before);
     }
-    Near::None
+    None
 }
 
 // The row at a place, where there is one and an upper bound admits it.
@@ -89,17 +83,17 @@ pub fn row_from(
     spot: Spot,
     upper: Bound,
     high: &[u8],
-) -> Near
+) -> Option<Spot>
     requires { Held log.now table.now mark }
     ensures { near_rank result (rows log.now table.now mark)
         ≡ from_in upper high.now (rows log.now table.now mark) (rank spot (rows log.now table.now mark)) }
 {
     if mark.count <= spot.number {
-        return Near::None;
+        return None;
     }
     let o = compare(key_at(log, table, mark, spot), high);
     if admits_high(upper, o) {
-        return Near::At(spot);
+        return Some(spot);
     }
-    Near::None
+    None
 }

@@ -3,13 +3,6 @@
 ghost use Rattle.std.specs.Prelude.{◌≡◌};
 ghost use Rattle.bitcask.specs.entry.Length.{signed_of, len_of, length_of};
 
-// How many bytes the value has, or that there is none.
-#[derive(Clone, Copy)]
-pub enum Len {
-    Bytes(usize),
-    Gone,
-}
-
 // The 32 bits as two's complement.
 fn signed(raw: u32) -> i32
     ensures { result ≡ signed_of raw }
@@ -23,18 +16,14 @@ fn signed(raw: u32) -> i32
 }
 
 // The sign test.
-fn len_of(v: i32) -> Len
+fn len_of(v: i32) -> Option<usize>
     ensures { result ≡ len_of v }
 {
-    if v < 0 {
-        Len::Gone
-    } else {
-        Len::Bytes(v as usize)
-    }
+    if v < 0 { None } else { Some(v as usize) }
 }
 
 // The value length that 32 bits of the log state; callers meet no signed number.
-pub(crate) fn value_len(raw: u32) -> Len
+pub(crate) fn value_len(raw: u32) -> Option<usize>
     ensures { result ≡ length_of raw }
 {
     len_of(signed(raw))

@@ -2,7 +2,7 @@
 ghost use Rattle.std.specs.Prelude.{◌≡◌, ◌≤◌};
 ghost use Rattle.bitcask.specs.entry.Reading.{word_at, entry_at};
 
-use crate::entry::length::{Len, value_len};
+use crate::entry::length::value_len;
 use keycode::number::get_number;
 use keycode::parts::clip;
 
@@ -35,13 +35,13 @@ pub fn entry_at(log: &[u8], used: usize, at: usize) -> Read
         return Read::Stop;
     }
     match value_len(word_at(log, at + 4)) {
-        Len::Bytes(vlen) => {
+        Some(vlen) => {
             if room - klen < vlen {
                 Read::Stop
             } else {
                 Read::Set { klen, vlen }
             }
         }
-        Len::Gone => Read::Del { klen },
+        None => Read::Del { klen },
     }
 }

@@ -4,17 +4,11 @@ ghost use Rattle.bitcask.specs.keydir.Slots.{slot_words, slots_of};
 ghost use Rattle.bitcask.specs.keydir.Place.{order_at, place_of, Among, entered, cut_at, Becomes};
 
 use crate::keydir::slots::{SLOT_WORDS, Slot, insert, key_of, remove, replace, slot_at};
-use keycode::{Order, compare};
-
-// The slot that has the key, or the one before which the key belongs.
-#[derive(Clone, Copy)]
-pub enum Found {
-    At(usize),
-    Before(usize),
-}
+use keycode::compare;
+use std::cmp::Ordering;
 
 // The i-th slot's key against a key.
-fn order_at(log: &[u8], table: &[u32], count: usize, i: usize, key: &[u8]) -> Order
+fn order_at(log: &[u8], table: &[u32], count: usize, i: usize, key: &[u8]) -> Ordering
     requires { (i < count) × (slot_words * count ≤ length table.now) }
     ensures { result ≡ order_at log.now key.now (slots_of count table.now) i }
 {
@@ -22,7 +16,7 @@ fn order_at(log: &[u8], table: &[u32], count: usize, i: usize, key: &[u8]) -> Or
 }
 
 // The place of a key among the first `count` slots, by halving.
-pub fn find(log: &[u8], table: &[u32], count: usize, key: &[u8]) -> Found
+pub fn find(log: &[u8], table: &[u32], count: usize, key: &[u8]) -> Result<usize, usize>
     requires { slot_words * count ≤ length table.now }
     ensures { result ≡ place_of log.now key.now (slots_of count table.now) }
 {
@@ -32,31 +26,31 @@ pub fn find(log: &[u8], table: &[u32], count: usize, key: &[u8]) -> Found
         let mid = low + (high - low) / 2;
         let o = order_at(log, table, count, mid, key);
         match o {
-            Order::Less => {
+            Ordering::Less => {
                 low = mid + 1;
             }
-            Order::Equal => {
-                return Found::At(mid);
+            Ordering::Equal => {
+                return Ok(mid);
             }
-            Order::Greater => {
+            Ordering::Greater => {
                 high = mid;
             }
         }
     }
-    Found::Before(low)
+    Err(low)
 }
 
 // A slot put in at a place that was found; gives the slots in use then. A new one that has no room leaves the table.
-pub(crate) fn enter(table: &mut [u32], count: usize, found: Found, s: Slot) -> usize
+pub(crate) fn enter(table: &mut [u32], count: usize, found: Result<usize, usize>, s: Slot) -> usize
     requires { (Among count found) × (slot_words * count ≤ length table.old) }
     ensures { Becomes table.old count (entered table.old s found (slots_of count table.old)) table.new result }
 {
     match found {
-        Found::At(i) => {
+        Ok(i) => {
             replace(table, count, i, s);
             count
         }
-        Found::Before(i) => {
+        Err(i) => {
             if table.len() / SLOT_WORDS <= count {
                 return count;
             }
@@ -67,15 +61,15 @@ pub(crate) fn enter(table: &mut [u32], count: usize, found: Found, s: Slot) -> u
 }
 
 // The slot at a place that was found taken out, if there is one; gives the slots in use then.
-pub(crate) fn leave(table: &mut [u32], count: usize, found: Found) -> usize
+pub(crate) fn leave(table: &mut [u32], count: usize, found: Result<usize, usize>) -> usize
     requires { (Among count found) × (slot_words * count ≤ length table.old) }
     ensures { Becomes table.old count (cut_at found (slots_of count table.old)) table.new result }
 {
     match found {
-        Found::At(i) => {
+        Ok(i) => {
             remove(table, count, i);
             count - 1
         }
-        Found::Before(_) => count,
+        Err(_) => count,
     }
 }

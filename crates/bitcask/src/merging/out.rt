@@ -5,7 +5,7 @@ ghost use Rattle.bitcask.specs.keydir.Slots.{slot_words, slots_of};
 ghost use Rattle.bitcask.specs.merging.Passes.{TakesOne, TakesAll};
 
 use crate::keydir::words::clear;
-use crate::keydir::{Found, SLOT_WORDS, find, key_of, slot_at};
+use crate::keydir::{SLOT_WORDS, find, key_of, slot_at};
 use crate::merging::moves::move_down;
 
 #[derive(Clone, Copy)]
@@ -22,14 +22,14 @@ fn take_one(log: &[u8], table: &mut [u32], count: usize, gap: Gap, key: &[u8]) -
     let start = SLOT_WORDS * gap.from;
     let found = find(log, &table[start..], count - gap.from, key);
     match found {
-        Found::At(j) => {
+        Ok(j) => {
             move_down(table, start, start + SLOT_WORDS * j, SLOT_WORDS * gap.to);
             Gap {
                 to: gap.to + j,
                 from: gap.from + j + 1,
             }
         }
-        Found::Before(_) => gap,
+        Err(_) => gap,
     }
 }
 

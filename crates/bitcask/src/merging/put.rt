@@ -7,7 +7,7 @@ ghost use Rattle.bitcask.specs.merging.Merge.{is_gone, new_of, news};
 ghost use Rattle.bitcask.specs.merging.Passes.{PutsNext, PutsAll};
 
 use crate::keydir::slots::store;
-use crate::keydir::{Found, SLOT_WORDS, Slot, find, key_of, slot_at};
+use crate::keydir::{SLOT_WORDS, Slot, find, key_of, slot_at};
 use crate::merging::moves::move_up;
 
 // The value length of a waiting slot whose key is to go.
@@ -30,12 +30,12 @@ fn new_of(s: Slot) -> usize
     1
 }
 
-fn index_of(found: Found) -> usize
+fn index_of(found: Result<usize, usize>) -> usize
     ensures { result ≡ index_of found }
 {
     match found {
-        Found::At(i) => i,
-        Found::Before(i) => i,
+        Ok(i) => i,
+        Err(i) => i,
     }
 }
 

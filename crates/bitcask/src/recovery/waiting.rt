@@ -1,14 +1,13 @@
 // An entry into a table beside which changes wait: what moves no other slot is done in the table, what would waits, and all that waits
 // is brought into the table in one pass.
-ghost use Rattle.std.specs.Prelude.{true, false, ◌≡◌, ◌+◌, ◌-◌, ◌*◌, ◌≤◌, ◌<◌, length, ltb};
+ghost use Rattle.std.specs.Prelude.{true, false, ◌≡◌, ◌+◌, ◌-◌, ◌*◌, ◌≤◌, ◌<◌, length, ltb, Err};
 ghost use Rattle.keycode.specs.Tests.{pick};
-ghost use Rattle.bitcask.specs.declared.keydir.place.Found.TheVariants.{Before};
 ghost use Rattle.bitcask.specs.keydir.Slots.{slot_words, slots_of, key_of};
 ghost use Rattle.bitcask.specs.keydir.Place.{place_of, Among};
 ghost use Rattle.bitcask.specs.merging.Merge.{is_gone};
 ghost use Rattle.bitcask.specs.recovery.Waiting.{max_waiting, waits_gone, Enters, Leaves, Settles};
 
-use crate::keydir::{Found, SLOT_WORDS, Slot, enter, find, key_of, leave, slot_at};
+use crate::keydir::{SLOT_WORDS, Slot, enter, find, key_of, leave, slot_at};
 use crate::merging::flush;
 use crate::merging::put::is_gone;
 
@@ -32,13 +31,13 @@ pub enum Took {
 }
 
 // Whether what waits at a place that was found takes its key out.
-fn waits_gone(pend: &[u32], waiting: usize, held: Found) -> bool
+fn waits_gone(pend: &[u32], waiting: usize, held: Result<usize, usize>) -> bool
     requires { (Among waiting held) × (slot_words * waiting ≤ length pend.now) }
     ensures { result ≡ waits_gone (slots_of waiting pend.now) held }
 {
     match held {
-        Found::At(i) => is_gone(slot_at(pend, i)),
-        Found::Before(_) => false,
+        Ok(i) => is_gone(slot_at(pend, i)),
+        Err(_) => false,
     }
 }
 
@@ -72,13 +71,13 @@ fn take_new(
     end: usize,
 ) -> Took
     requires { (slot_words * h.count ≤ length table.old) × (slot_words * h.waiting + slot_words ≤ length pend.old) × (is_gone s ≡ false)
-        × (Before i ≡ place_of log.now (key_of log.now s) (slots_of h.waiting pend.old)) }
+        × (Err i ≡ place_of log.now (key_of log.now s) (slots_of h.waiting pend.old)) }
     ensures { Enters log.now table.old pend.old h (record { slot = s; gone = false }) end result table.new pend.new }
 {
     let found = find(log, table, h.count, key_of(log, s));
     let slots = table.len() / SLOT_WORDS;
     match found {
-        Found::At(_) => {
+        Ok(_) => {
             let n = enter(table, h.count, found, s);
             Took::Next {
                 at: end,
@@ -89,12 +88,12 @@ fn take_new(
                 },
             }
         }
-        Found::Before(j) => {
+        Err(j) => {
             if slots <= h.live {
                 return Took::Full;
             }
             if goes_last(j, h.count, slots) {
-                let n = enter(table, h.count, Found::Before(j), s);
+                let n = enter(table, h.count, Err(j), s);
                 return Took::Next {
                     at: end,
                     held: Held {
@@ -104,7 +103,7 @@ fn take_new(
                     },
                 };
             }
-            let n = enter(pend, h.waiting, Found::Before(i), s);
+            let n = enter(pend, h.waiting, Err(i), s);
             Took::Next {
                 at: end,
                 held: Held {
@@ -131,7 +130,7 @@ pub(crate) fn take_set(
 {
     let held = find(log, pend, h.waiting, key_of(log, s));
     match held {
-        Found::At(_) => {
+        Ok(_) => {
             if waits_gone(pend, h.waiting, held) {
                 if table.len() / SLOT_WORDS <= h.live {
                     return Took::Full;
@@ -156,7 +155,7 @@ pub(crate) fn take_set(
                 },
             }
         }
-        Found::Before(i) => take_new(log, table, pend, h, i, s, end),
+        Err(i) => take_new(log, table, pend, h, i, s, end),
     }
 }
 
@@ -171,7 +170,7 @@ pub(crate) fn take_del(log: &[u8], table: &[u32], pend: &mut [u32], h: Held, s: 
     }
     let found = find(log, table, h.count, key_of(log, s));
     match found {
-        Found::At(_) => {
+        Ok(_) => {
             let n = enter(pend, h.waiting, held, s);
             Held {
                 count: h.count,
@@ -179,7 +178,7 @@ pub(crate) fn take_del(log: &[u8], table: &[u32], pend: &mut [u32], h: Held, s: 
                 live: less_by(h.live, 1),
             }
         }
-        Found::Before(_) => {
+        Err(_) => {
             let n = leave(pend, h.waiting, held);
             Held {
                 count: h.count,

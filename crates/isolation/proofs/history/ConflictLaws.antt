@@ -5,7 +5,7 @@ use native.Mathlib.Omega.{arith}
 use mathlib.Core.Path.{◌≡◌, refl, sym, ◌∙◌}
 use mathlib.Core.Bool.{Bool, true, false}
 use mathlib.Core.Logic.{◌≢◌, inl, inr, by_cases}
-use mathlib.Core.Option.{Option, none}
+use Rattle.std.specs.Prelude.{Option, None}
 use mathlib.Core.List.{List}
 use native.Mathlib.Decide.{ℕ_discrete, dec_lt}
 use Rattle.isolation.specs.history.History.{Key, Bytes}
@@ -18,7 +18,7 @@ use Rattle.isolation.proofs.history.FactLaws.{nope, outside, good-after, ended-s
 use Rattle.isolation.proofs.history.StoredLaws.{Alive, alive_open, alive_done, alive, apart}
 use Rattle.isolation.proofs.history.ViewLaws.{Given, past-past}
 
-keep_some : (b : Bool) (y : Option (Option Bytes)) → keep b y ≢ none → (b ≡ true) × (y ≢ none)
+keep_some : (b : Bool) (y : Option (Option Bytes)) → keep b y ≢ None → (b ≡ true) × (y ≢ None)
 keep_some true y n = (refl, n)
 keep_some false y n = absurd (n refl)
 
@@ -35,10 +35,10 @@ module _ {H : History} (g : Good H) (t : ℕ) (S : List ℕ) (k : Key) (own : st
   g1 = good-after (start g t own).after g
 
   -- what a clash's other transaction has stored, and where
-  clash_stored : (c : Clash H t k) → stored H k c.other ≢ none
+  clash_stored : (c : Clash H t k) → stored H k c.other ≢ None
   clash_stored c = go c.late
     where
-      go : Late H t c.other → stored H k c.other ≢ none
+      go : Late H t c.other → stored H k c.other ≢ None
       go (inl o) i = c.writes (rw o at i)
       go (inr d) i = c.writes (rw d.0 at i)
 

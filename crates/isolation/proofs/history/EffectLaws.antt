@@ -4,7 +4,7 @@ use native.Mathlib.Omega.{arith}
 use mathlib.Core.Path.{◌≡◌, refl, sym, ◌∙◌, ap}
 use mathlib.Core.Bool.{Bool, true, false, not, ◌&&◌, ◌||◌, cond}
 use mathlib.Core.Logic.{◌≢◌, if_pos, if_neg}
-use mathlib.Core.Option.{Option, none, some}
+use Rattle.std.specs.Prelude.{Option, None, Some}
 use mathlib.Core.List.{List, [], ◌∷◌}
 use native.Mathlib.Decide.{ℕ_discrete}
 use Rattle.keycode.specs.key.Keys.{Fields, next_version, txn_active, txn_active_snapshot, txn_write, version, unversioned}
@@ -23,7 +23,7 @@ pub empty : Empty (view [])
 unfolding look
 empty = record { next = refl; act = λ x. refl; snap = λ x. refl; txw = λ x k. refl; vers = λ k x. refl }
 
-look_none : (K : Fields) → look [] K ≡ none
+look_none : (K : Fields) → look [] K ≡ None
 unfolding look
 look_none K = refl
 
@@ -73,10 +73,10 @@ module _ {cmp : Fields → Fields → Ordering} (L : Order cmp) where
       other : (K : Fields) → version k t ≢ K → txn_write t k ≢ K → look (write_map cmp t k o m) K ≡ look m K
       other K a b = look_put_other L (ver_rec k t o) (put cmp (wrote_rec t k) m) a ∙ look_put_other L (wrote_rec t k) m b
 
-      own_w : look (write_map cmp t k o m) (txn_write t k) ≡ some (wrote_rec t k)
+      own_w : look (write_map cmp t k o m) (txn_write t k) ≡ Some (wrote_rec t k)
       own_w = look_put_other L (ver_rec k t o) (put cmp (wrote_rec t k) m) (λ e. nope (cc)) ∙ look-put L (wrote_rec t k) m
 
-      own_v : look (write_map cmp t k o m) (version k t) ≡ some (ver_rec k t o)
+      own_v : look (write_map cmp t k o m) (version k t) ≡ Some (ver_rec k t o)
       own_v = look-put L (ver_rec k t o) (put cmp (wrote_rec t k) m)
 
   pub plain_unseen : (m : Map) (k : Key) (b : Bytes) → Unseen (view m) (view (put cmp (plain_rec k b) m))
@@ -275,8 +275,8 @@ in_written t (ver_rec j v o ∷ m) k = rw (look-past (ver_rec j v o) m {K = txn_
 in_written t (plain_rec j b ∷ m) k = rw (look-past (plain_rec j b) m {K = txn_write t k} (λ e. nope (cc))) (in_written t m k)
 
 gone : (y : Option Rec) → is_some (keep (not (is_some y)) y) ≡ false
-gone none = refl
-gone (some r) = refl
+gone None = refl
+gone (Some r) = refl
 
 pub commits : (m : Map) (t : ℕ) → Commits (view m) t (view (commit_map t m))
 unfolding commit_map

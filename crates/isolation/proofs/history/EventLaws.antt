@@ -2,7 +2,7 @@
 use Prim.Native.Nat.{ℕ}
 use mathlib.Core.Path.{◌≡◌, refl, ◌∙◌}
 use mathlib.Core.Logic.{◌≢◌, ite, if_pos, if_neg}
-use mathlib.Core.Option.{Option, some}
+use Rattle.std.specs.Prelude.{Option, Some}
 use mathlib.Core.List.{◌∷◌}
 use native.Mathlib.Decide.{ℕ_discrete}
 use Rattle.isolation.specs.history.History.{Key, Bytes, key≟}
@@ -56,9 +56,9 @@ pub write_noted : (H : History) (v : ℕ) (k : Key) → last_write (noted ∷ H)
 unfolding last_write
 write_noted H v k = refl
 
-pub write_same : (H : History) (t : ℕ) (k : Key) (o : Option Bytes) → last_write (wrote t k o ∷ H) t k ≡ some o
+pub write_same : (H : History) (t : ℕ) (k : Key) (o : Option Bytes) → last_write (wrote t k o ∷ H) t k ≡ Some o
 unfolding last_write
-write_same H t k o = if_pos (ℕ_discrete t t) refl _ _ ∙ if_pos (key≟ k k) refl (some o) (last_write H t k)
+write_same H t k o = if_pos (ℕ_discrete t t) refl _ _ ∙ if_pos (key≟ k k) refl (Some o) (last_write H t k)
 
 pub write_other_txn : (H : History) {t v : ℕ} (j : Key) (o : Option Bytes) (k : Key) → t ≢ v → last_write (wrote t j o ∷ H) v k ≡ last_write H v k
 unfolding last_write
@@ -68,10 +68,10 @@ pub write_other_key : (H : History) (t : ℕ) {j k : Key} (o : Option Bytes) (v 
 unfolding last_write
 write_other_key H t {j} {k} o v n = go (ℕ_discrete t v)
   where
-    inner : ite (key≟ j k) (some o) (last_write H v k) ≡ last_write H v k
-    inner = if_neg (key≟ j k) n (some o) (last_write H v k)
+    inner : ite (key≟ j k) (Some o) (last_write H v k) ≡ last_write H v k
+    inner = if_neg (key≟ j k) n (Some o) (last_write H v k)
 
-    go : (d : Dec (t ≡ v)) → ite d (ite (key≟ j k) (some o) (last_write H v k)) (last_write H v k) ≡ last_write H v k
+    go : (d : Dec (t ≡ v)) → ite d (ite (key≟ j k) (Some o) (last_write H v k)) (last_write H v k) ≡ last_write H v k
     go (yes p) = inner
     go (no p) = refl
 

@@ -4,7 +4,7 @@ use native.Mathlib.Omega.{arith}
 use mathlib.Core.Path.{◌≡◌, refl, ◌∙◌}
 use mathlib.Core.Bool.{true}
 use mathlib.Core.Logic.{◌≢◌, ◌⊎◌, inl, inr}
-use mathlib.Core.Option.{none}
+use Rattle.std.specs.Prelude.{None}
 use mathlib.Core.List.{◌∷◌}
 use native.Mathlib.Decide.{ℕ_discrete, dec_le}
 use Rattle.isolation.specs.history.History.{Key}
@@ -139,12 +139,12 @@ within {H} g v n = (low (ℕ_discrete v 0), high (dec_le v (begins H)))
     high (no p) = absurd (n (outside g v (inr (omega arith))))
 
 -- who has not begun has written nothing
-pub unborn_writes : {H : History} → Good H → (v : ℕ) (k : Key) → status H v ≡ unborn → last_write H v k ≡ none
+pub unborn_writes : {H : History} → Good H → (v : ℕ) (k : Key) → status H v ≡ unborn → last_write H v k ≡ None
 unfolding last_write
 unborn_writes good_nil v k u = refl
 unborn_writes (good_cons {H = H} {e = x} g q) v k u = go (λ i. unborn_writes g v k i) (move g q v) (write_step q v k)
   where
-    go : (status H v ≡ unborn → last_write H v k ≡ none) → Move H x v → (status H v ≡ opened) ⊎ (last_write (x ∷ H) v k ≡ last_write H v k) → last_write (x ∷ H) v k ≡ none
+    go : (status H v ≡ unborn → last_write H v k ≡ None) → Move H x v → (status H v ≡ opened) ⊎ (last_write (x ∷ H) v k ≡ last_write H v k) → last_write (x ∷ H) v k ≡ None
     go rec (same p _) (inl r) = nope (cc)
     go rec (same p _) (inr r) = r ∙ rec (cc)
     go rec (birth p r _ _) c = nope (cc)

@@ -4,7 +4,7 @@ use native.Mathlib.Omega.{arith}
 use mathlib.Core.Path.{◌≡◌, refl, sym, ◌∙◌, ap}
 use mathlib.Core.Bool.{Bool, true, false}
 use mathlib.Core.Logic.{◌≢◌, inr}
-use mathlib.Core.Option.{Option, none, some}
+use Rattle.std.specs.Prelude.{Option, None, Some}
 use mathlib.Core.List.{List, [], ◌∷◌}
 use native.Mathlib.Decide.{ℕ_discrete}
 use Rattle.isolation.specs.history.History.{Key, Bytes, key≟}
@@ -30,9 +30,9 @@ and_false : (b : Bool) → b && false ≡ false
 and_false true = refl
 and_false false = refl
 
-keep_not : {A : Type 0} (y : Option A) → keep (not (is_some y)) y ≡ none
-keep_not none = refl
-keep_not (some a) = refl
+keep_not : {A : Type 0} (y : Option A) → keep (not (is_some y)) y ≡ None
+keep_not None = refl
+keep_not (Some a) = refl
 
 pub keeps-empty : {d : Db} → Empty d → Rep d []
 unfolding begins status last_write

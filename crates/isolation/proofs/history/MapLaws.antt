@@ -3,26 +3,26 @@ use Prim.Native.Nat.{Ordering}
 use mathlib.Core.Path.{◌≡◌, refl, sym, ◌∙◌, ap, subst}
 use mathlib.Core.Bool.{Bool, true, false, not, ◌||◌}
 use mathlib.Core.Logic.{◌≢◌, if_pos, if_neg, by_cases}
-use mathlib.Core.Option.{Option, none, some}
+use Rattle.std.specs.Prelude.{Option, None, Some}
 use mathlib.Core.List.{List, [], ◌∷◌}
 use Rattle.keycode.specs.key.Keys.{Fields}
 use Rattle.isolation.specs.history.Records.{fields≟, Rec, key_of, Map, look, without, put, place, is_yes, del_all, Above, above_nil, above_cons, Sorted, sorted_nil, sorted_cons, Order}
 use Rattle.isolation.specs.history.History.{keep}
 use Rattle.isolation.proofs.history.FactLaws.{nope}
 
-pub look-here : (r : Rec) (m : Map) → look (r ∷ m) (key_of r) ≡ some r
+pub look-here : (r : Rec) (m : Map) → look (r ∷ m) (key_of r) ≡ Some r
 unfolding look
-look-here r m = if_pos (fields≟ (key_of r) (key_of r)) refl (some r) (look m (key_of r))
+look-here r m = if_pos (fields≟ (key_of r) (key_of r)) refl (Some r) (look m (key_of r))
 
 pub look-past : (r : Rec) (m : Map) {K : Fields} → key_of r ≢ K → look (r ∷ m) K ≡ look m K
 unfolding look
-look-past r m {K} n = if_neg (fields≟ (key_of r) K) n (some r) (look m K)
+look-past r m {K} n = if_neg (fields≟ (key_of r) K) n (Some r) (look m K)
 
 pub look-without : (p : Fields → Bool) (m : Map) (K : Fields) → look (without p m) K ≡ keep (not (p K)) (look m K)
 unfolding look without
 look-without p [] K = go (not (p K))
   where
-    go : (b : Bool) → none ≡ keep {A = Rec} b none
+    go : (b : Bool) → None ≡ keep {A = Rec} b None
     go true = refl
     go false = refl
 look-without p (r ∷ m) K = go (p (key_of r)) refl (fields≟ (key_of r) K) (look-without p m K)
@@ -34,12 +34,12 @@ look-without p (r ∷ m) K = go (p (key_of r)) refl (fields≟ (key_of r) K) (lo
     go false e (no n) i = look-past r (without p m) n ∙ i ∙ rw (look-past r m n)
 
 module _ {cmp : Fields → Fields → Ordering} (L : Order cmp) where
-  pub look-put : (r : Rec) (m : Map) → look (put cmp r m) (key_of r) ≡ some r
+  pub look-put : (r : Rec) (m : Map) → look (put cmp r m) (key_of r) ≡ Some r
   unfolding put
   look-put r [] = look-here r []
   look-put r (e ∷ m) = go (cmp (key_of r) (key_of e)) refl (look-put r m)
     where
-      go : (o : Ordering) → cmp (key_of r) (key_of e) ≡ o → look (put cmp r m) (key_of r) ≡ some r → look (place o r e m (put cmp r m)) (key_of r) ≡ some r
+      go : (o : Ordering) → cmp (key_of r) (key_of e) ≡ o → look (put cmp r m) (key_of r) ≡ Some r → look (place o r e m (put cmp r m)) (key_of r) ≡ Some r
       go Ordering.lt q i = look-here r (e ∷ m)
       go Ordering.eq q i = look-here r m
       go Ordering.gt q i = look-past e (put cmp r m) (λ z. nope (cc (L.itself (key_of r)))) ∙ i

@@ -4,7 +4,7 @@ use native.Mathlib.Omega.{arith}
 use mathlib.Core.Path.{◌≡◌, refl, sym, ◌∙◌, ap}
 use mathlib.Core.Bool.{Bool, true, false}
 use mathlib.Core.Logic.{◌≢◌, inr}
-use mathlib.Core.Option.{Option, none, some}
+use Rattle.std.specs.Prelude.{Option, None, Some}
 use mathlib.Core.List.{List, [], ◌∷◌}
 use Rattle.isolation.specs.history.History.{is_open, Key, Bytes}
 use Rattle.mvcc.specs.world.Runs.{After, now, later}
@@ -124,12 +124,12 @@ module _ {cmp : Fields → Fields → Ordering} (L : Order cmp) where
           and_true true = refl
           and_true false = refl
 
-          inside : (x : ℕ) → stored (events T) k x ≢ none → x ≤ last_version
+          inside : (x : ℕ) → stored (events T) k x ≢ None → x ≤ last_version
           inside x n = omega (arith, within g x (λ u. n (rw u)), S.bound)
 
           same : (x : ℕ) (z : Option (Option Bytes)) → stored (events T) k x ≡ z → keep (leb (lowest h.set h.ver) x) (stored (events T) k x) ≡ keep (searched h x) ((view m).vers k x)
-          same x none e = ap (keep (leb (lowest h.set h.ver) x)) e ∙ keep-none (leb (lowest h.set h.ver) x) ∙ sym (ap (keep (searched h x)) (S.rep.vers k x ∙ e) ∙ keep-none (searched h x))
-          same x (some o) e = sym (ap (keep (searched h x)) (S.rep.vers k x) ∙ ap (λ b. keep b (stored (events T) k x)) (ap (λ b. leb (lowest h.set h.ver) x && b) (le-leb x last_version (inside x (λ i. nope (cc)))) ∙ and_true (leb (lowest h.set h.ver) x)))
+          same x None e = ap (keep (leb (lowest h.set h.ver) x)) e ∙ keep-none (leb (lowest h.set h.ver) x) ∙ sym (ap (keep (searched h x)) (S.rep.vers k x ∙ e) ∙ keep-none (searched h x))
+          same x (Some o) e = sym (ap (keep (searched h x)) (S.rep.vers k x) ∙ ap (λ b. keep b (stored (events T) k x)) (ap (λ b. leb (lowest h.set h.ver) x && b) (le-leb x last_version (inside x (λ i. nope (cc)))) ∙ and_true (leb (lowest h.set h.ver) x)))
 
   state_noted : {m : Map} {T : Trace} {e : Entry} → State cmp m T → Ok T e → event e ≡ noted → State cmp m (e ∷ T)
   unfolding events begins
@@ -277,7 +277,7 @@ module _ {cmp : Fields → Fields → Ordering} (L : Order cmp) where
       top : Top (λ x. keep (below v h.set x) (stored (events T) k x)) (shown m h k)
       top = top_congr (λ x. rw (w.0, w.1)) (shown_top S h k)
 
-  pub get_as_of_0 : {m : Map} {T T1 : Trace} → Run cmp m T → (h : Sight) → After (as_of_e 0 h ∷ T1) T → (k : Key) → shown m h k ≡ none
+  pub get_as_of_0 : {m : Map} {T T1 : Trace} → Run cmp m T → (h : Sight) → After (as_of_e 0 h ∷ T1) T → (k : Key) → shown m h k ≡ None
   unfolding visible
   get_as_of_0 {m} {T} {T1} r h a k = top_unique (shown_top S h k) (nowhere (λ x. rw (w.0, w.1, le-ltb x 0 (omega arith)) (none_of (is_in x h.set) _)) refl)
     where
@@ -287,7 +287,7 @@ module _ {cmp : Fields → Fields → Ordering} (L : Order cmp) where
       w : Ok T1 (as_of_e 0 h)
       w = ok_of S.ok a
 
-      none_of : (b : Bool) (z : Option (Option Bytes)) → keep (not b && false) z ≡ none
+      none_of : (b : Bool) (z : Option (Option Bytes)) → keep (not b && false) z ≡ None
       none_of true z = refl
       none_of false z = refl
 

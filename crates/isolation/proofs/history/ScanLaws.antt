@@ -4,7 +4,7 @@ use native.Mathlib.Omega.{arith}
 use mathlib.Core.Path.{◌≡◌, refl, sym, ◌∙◌}
 use mathlib.Core.Bool.{Bool, true, false, cond}
 use mathlib.Core.Logic.{◌≢◌, ite}
-use mathlib.Core.Option.{Option, none, some}
+use Rattle.std.specs.Prelude.{Option, None, Some}
 use mathlib.Core.List.{[], ◌∷◌}
 use Rattle.keycode.specs.key.Keys.{Fields, version}
 use Rattle.isolation.specs.history.History.{Key, Bytes, key≟}
@@ -21,10 +21,10 @@ use Rattle.isolation.proofs.history.Standing as Hs
 use Rattle.isolation.proofs.history.Standing.{Peak, peak_at, Top, nowhere, top_at, Hidden}
 
 pub data LastIs (p : ℕ → Bool) (k : Key) (m : Map) (r : Option Rec) : Type 0 where
-  last_none : ((x : ℕ) → p x ≡ true → look m (version k x) ≡ none) → r ≡ none → LastIs p k m r
-  last-at : (x : ℕ) (o : Option Bytes) → r ≡ some (ver_rec k x o) → p x ≡ true → look m (version k x) ≡ some (ver_rec k x o) → ((y : ℕ) → x < y → p y ≡ true → look m (version k y) ≡ none) → LastIs p k m r
+  last_none : ((x : ℕ) → p x ≡ true → look m (version k x) ≡ None) → r ≡ None → LastIs p k m r
+  last-at : (x : ℕ) (o : Option Bytes) → r ≡ Some (ver_rec k x o) → p x ≡ true → look m (version k x) ≡ Some (ver_rec k x o) → ((y : ℕ) → x < y → p y ≡ true → look m (version k y) ≡ None) → LastIs p k m r
 
-look_nil : (K : Fields) → look [] K ≡ none
+look_nil : (K : Fields) → look [] K ≡ None
 unfolding look
 look_nil K = refl
 
@@ -34,11 +34,11 @@ skip p k e m r n (last_none a i) = last_none (λ x t. look-past e m (n x t) ∙ 
 skip p k e m r n (last-at x o i t l a) = last-at x o i t (look-past e m (n x t) ∙ l) (λ y u v. look-past e m (n y v) ∙ a y u v)
 
 module _ {cmp : Fields → Fields → Ordering} (L : Order cmp) where
-  pub above_look : (K : Fields) {m : Map} → Above cmp K m → (J : Fields) (r : Rec) → look m J ≡ some r → cmp K J ≡ Ordering.lt
+  pub above_look : (K : Fields) {m : Map} → Above cmp K m → (J : Fields) (r : Rec) → look m J ≡ Some r → cmp K J ≡ Ordering.lt
   above_look K above_nil J r e = nope (cc (look_nil J))
   above_look K (above_cons {r = s} {m = m} q a) J r e = go (fields≟ (key_of s) J) (above_look K a J r)
     where
-      go : Dec (key_of s ≡ J) → (look m J ≡ some r → cmp K J ≡ Ordering.lt) → cmp K J ≡ Ordering.lt
+      go : Dec (key_of s ≡ J) → (look m J ≡ Some r → cmp K J ≡ Ordering.lt) → cmp K J ≡ Ordering.lt
       go (yes p) rec = rw p at q
       go (no n) rec = rec (sym (look-past s m n) ∙ e)
 
@@ -51,7 +51,7 @@ module _ {cmp : Fields → Fields → Ordering} (L : Order cmp) where
   last-is p k (sorted_cons {r = wrote_rec v j} {m = m} a s) = skip p k (wrote_rec v j) m _ (λ x t e. nope (cc)) (last-is p k s)
   last-is p k (sorted_cons {r = ver_rec j v o} {m = m} a s) = go (key≟ j k) (p v) refl (last-is p k s)
     where
-      less : j ≡ k → (x : ℕ) (u : Option Bytes) → look m (version k x) ≡ some (ver_rec k x u) → v < x
+      less : j ≡ k → (x : ℕ) (u : Option Bytes) → look m (version k x) ≡ Some (ver_rec k x u) → v < x
       less q x u l = L.by_version k v x (rw q at (above_look (version j v) a (version k x) (ver_rec k x u) l))
 
       go : (d : Dec (j ≡ k)) (b : Bool) → p v ≡ b → LastIs p k m (last_of (versions_of p k m)) → LastIs p k (ver_rec j v o ∷ m) (last_of (ite d (cond b (ver_rec j v o ∷ versions_of p k m) (versions_of p k m)) (versions_of p k m)))
@@ -65,42 +65,42 @@ module _ {cmp : Fields → Fields → Ordering} (L : Order cmp) where
 pub last_top : (p : ℕ → Bool) (k : Key) (m : Map) (r : Option Rec) → LastIs p k m r → Top (λ x. keep (p x) ((view m).vers k x)) (flat (item_of r))
 last_top p k m r (last_none f i) = nowhere (λ x. go x (p x) refl) (rw i)
   where
-    go : (x : ℕ) (b : Bool) → p x ≡ b → keep (p x) (item_of (look m (version k x))) ≡ none
+    go : (x : ℕ) (b : Bool) → p x ≡ b → keep (p x) (item_of (look m (version k x))) ≡ None
     go x true e = rw (e, f x e)
     go x false e = rw e
 last_top p k m r (last-at x o i t l f) = rw i (top_at x (rw (t, l)) (λ y u. go y u (p y) refl))
   where
-    go : (y : ℕ) → x < y → (b : Bool) → p y ≡ b → keep (p y) (item_of (look m (version k y))) ≡ none
+    go : (y : ℕ) → x < y → (b : Bool) → p y ≡ b → keep (p y) (item_of (look m (version k y))) ≡ None
     go y u true e = rw (e, f y u e)
     go y u false e = rw e
 
 abbrev pub number_of : Option Rec → Option ℕ
-number_of none = none
-number_of (some (next_rec n)) = none
-number_of (some (active_rec v)) = none
-number_of (some (snap_rec v s)) = none
-number_of (some (wrote_rec v k)) = none
-number_of (some (ver_rec k v o)) = some v
-number_of (some (plain_rec k b)) = none
+number_of None = None
+number_of (Some (next_rec n)) = None
+number_of (Some (active_rec v)) = None
+number_of (Some (snap_rec v s)) = None
+number_of (Some (wrote_rec v k)) = None
+number_of (Some (ver_rec k v o)) = Some v
+number_of (Some (plain_rec k b)) = None
 
 pub last_peak : (p : ℕ → Bool) (k : Key) (m : Map) (r : Option Rec) → LastIs p k m r → Peak (λ x. keep (p x) ((view m).vers k x)) (number_of r)
 last_peak p k m r (last_none f i) = Hs.flat (λ x. go x (p x) refl) (rw i)
   where
-    go : (x : ℕ) (b : Bool) → p x ≡ b → keep (p x) (item_of (look m (version k x))) ≡ none
+    go : (x : ℕ) (b : Bool) → p x ≡ b → keep (p x) (item_of (look m (version k x))) ≡ None
     go x true e = rw (e, f x e)
     go x false e = rw e
 last_peak p k m r (last-at x o i t l f) = peak_at x (rw i) (λ z. nope (cc)) (λ y u. go y u (p y) refl)
   where
-    go : (y : ℕ) → x < y → (b : Bool) → p y ≡ b → keep (p y) (item_of (look m (version k y))) ≡ none
+    go : (y : ℕ) → x < y → (b : Bool) → p y ≡ b → keep (p y) (item_of (look m (version k y))) ≡ None
     go y u true e = rw (e, f y u e)
     go y u false e = rw e
 
 -- the conflict test says what Hidden says
 pub hides-hidden : (h : Sight) (r : Option Rec) → (hides h r ≡ true → Hidden h.ver h.set (number_of r)) × (Hidden h.ver h.set (number_of r) → hides h r ≡ true)
-hides-hidden h none = ((λ e. nope (cc)), (λ e. absurd e))
-hides-hidden h (some (next_rec n)) = ((λ e. nope (cc)), (λ e. absurd e))
-hides-hidden h (some (active_rec v)) = ((λ e. nope (cc)), (λ e. absurd e))
-hides-hidden h (some (snap_rec v s)) = ((λ e. nope (cc)), (λ e. absurd e))
-hides-hidden h (some (wrote_rec v k)) = ((λ e. nope (cc)), (λ e. absurd e))
-hides-hidden h (some (ver_rec k v o)) = (not-true (up_to h.ver h.set v), (λ e. rw e))
-hides-hidden h (some (plain_rec k b)) = ((λ e. nope (cc)), (λ e. absurd e))
+hides-hidden h None = ((λ e. nope (cc)), (λ e. absurd e))
+hides-hidden h (Some (next_rec n)) = ((λ e. nope (cc)), (λ e. absurd e))
+hides-hidden h (Some (active_rec v)) = ((λ e. nope (cc)), (λ e. absurd e))
+hides-hidden h (Some (snap_rec v s)) = ((λ e. nope (cc)), (λ e. absurd e))
+hides-hidden h (Some (wrote_rec v k)) = ((λ e. nope (cc)), (λ e. absurd e))
+hides-hidden h (Some (ver_rec k v o)) = (not-true (up_to h.ver h.set v), (λ e. rw e))
+hides-hidden h (Some (plain_rec k b)) = ((λ e. nope (cc)), (λ e. absurd e))

@@ -4,7 +4,7 @@ use Prim.Native.Nat.{ℕ, suc, ◌<◌}
 use mathlib.Core.Path.{◌≡◌}
 use mathlib.Core.Bool.{Bool, true, false, ◌&&◌}
 use mathlib.Core.Logic.{◌≢◌}
-use mathlib.Core.Option.{Option, none, some}
+use Rattle.std.specs.Prelude.{Option, None, Some}
 use mathlib.Core.List.{List, [], ◌∷◌}
 use lib.Dec.{leb}
 use Rattle.isolation.specs.history.History.{Key, Bytes, Sight, Event, began, wrote, committed, undone, noted, History, Status, unborn}
@@ -52,21 +52,21 @@ pub data Good : History → Type 0 where
 
 -- r is the value at the highest number where f has one
 pub data Top (f : ℕ → Option (Option Bytes)) (r : Option Bytes) : Type 0 where
-  nowhere : ((x : ℕ) → f x ≡ none) → r ≡ none → Top f r
-  top_at : (x : ℕ) → f x ≡ some r → ((y : ℕ) → x < y → f y ≡ none) → Top f r
+  nowhere : ((x : ℕ) → f x ≡ None) → r ≡ None → Top f r
+  top_at : (x : ℕ) → f x ≡ Some r → ((y : ℕ) → x < y → f y ≡ None) → Top f r
 
 -- r is the highest number where f has a value
 pub data Peak (f : ℕ → Option (Option Bytes)) (r : Option ℕ) : Type 0 where
-  flat : ((x : ℕ) → f x ≡ none) → r ≡ none → Peak f r
-  peak_at : (x : ℕ) → r ≡ some x → f x ≢ none → ((y : ℕ) → x < y → f y ≡ none) → Peak f r
+  flat : ((x : ℕ) → f x ≡ None) → r ≡ None → Peak f r
+  peak_at : (x : ℕ) → r ≡ Some x → f x ≢ None → ((y : ℕ) → x < y → f y ≡ None) → Peak f r
 
 abbrev pub from : ℕ → (ℕ → Option (Option Bytes)) → ℕ → Option (Option Bytes)
 from lo f x = keep (leb lo x) (f x)
 
 -- what the search finds is not visible
 abbrev pub Hidden : ℕ → List ℕ → Option ℕ → Type 0
-Hidden t S none = ⊥
-Hidden t S (some w) = up_to t S w ≡ false
+Hidden t S None = ⊥
+Hidden t S (Some w) = up_to t S w ≡ false
 
 -- the Version record of key k at x, as the history has it
 abbrev pub stored : History → Key → ℕ → Option (Option Bytes)

@@ -3,7 +3,7 @@ use Prim.Native.Nat.{ℕ, Ordering}
 use mathlib.Core.Path.{◌≡◌, refl, sym, ◌∙◌}
 use mathlib.Core.Bool.{Bool, true, false, cond}
 use mathlib.Core.Logic.{◌≢◌, by_cases}
-use mathlib.Core.Option.{Option, none, some}
+use Rattle.std.specs.Prelude.{Option, None, Some}
 use mathlib.Core.List.{[], ◌∷◌}
 use Rattle.keycode.specs.key.Keys.{Fields, version}
 use Rattle.isolation.specs.history.History.{Key, Bytes, key≟}
@@ -17,26 +17,26 @@ use Rattle.isolation.proofs.history.ScanLaws.{LastIs, last_none, last-at, last-i
 
 -- what a scan step answers, in terms of what each key shows
 pub data Step (cmp : Fields → Fields → Ordering) (f : Key → Option Bytes) (p : Key → Bool) (r : Option (Key × Bytes)) : Type 0 where
-  at_end : r ≡ none → ((k : Key) → p k ≡ true → f k ≡ none) → Step cmp f p r
-  at_key : (k : Key) (v : Bytes) → r ≡ some (k, v) → p k ≡ true → f k ≡ some v → ((j : Key) → p j ≡ true → f j ≢ none → (j ≢ k) → Before cmp k j) → Step cmp f p r
+  at_end : r ≡ None → ((k : Key) → p k ≡ true → f k ≡ None) → Step cmp f p r
+  at_key : (k : Key) (v : Bytes) → r ≡ Some (k, v) → p k ≡ true → f k ≡ Some v → ((j : Key) → p j ≡ true → f j ≢ None → (j ≢ k) → Before cmp k j) → Step cmp f p r
 
 -- a key that shows a value has a version in the map
 pub data HasKey (k : Key) (m : Map) : Type 0 where
-  has_key : (x : ℕ) (o : Option Bytes) → look m (version k x) ≡ some (ver_rec k x o) → HasKey k m
+  has_key : (x : ℕ) (o : Option Bytes) → look m (version k x) ≡ Some (ver_rec k x o) → HasKey k m
 
-pub shown_has : {cmp : Fields → Fields → Ordering} → Order cmp → {m : Map} → Sorted cmp m → (h : Sight) (k : Key) → shown m h k ≢ none → HasKey k m
+pub shown_has : {cmp : Fields → Fields → Ordering} → Order cmp → {m : Map} → Sorted cmp m → (h : Sight) (k : Key) → shown m h k ≢ None → HasKey k m
 unfolding shown
 shown_has L {m} s h k n = go (last_of (versions_of (visible h) k m)) n (last-is L (visible h) k s)
   where
-    go : (r : Option Rec) → flat (item_of r) ≢ none → LastIs (visible h) k m r → HasKey k m
+    go : (r : Option Rec) → flat (item_of r) ≢ None → LastIs (visible h) k m r → HasKey k m
     go r i (last_none a e) = absurd (i (rw e))
     go r i (last-at x o e t l a) = has_key x o l
 
 data StepIn (cmp : Fields → Fields → Ordering) (f : Key → Option Bytes) (p : Key → Bool) (m : Map) (r : Option (Key × Bytes)) : Type 0 where
-  in_end : r ≡ none → ((k : Key) → p k ≡ true → HasKey k m → f k ≡ none) → StepIn cmp f p m r
-  in_key : (k : Key) (v : Bytes) → r ≡ some (k, v) → p k ≡ true → f k ≡ some v → ((j : Key) → p j ≡ true → HasKey j m → f j ≢ none → j ≢ k → Before cmp k j) → StepIn cmp f p m r
+  in_end : r ≡ None → ((k : Key) → p k ≡ true → HasKey k m → f k ≡ None) → StepIn cmp f p m r
+  in_key : (k : Key) (v : Bytes) → r ≡ Some (k, v) → p k ≡ true → f k ≡ Some v → ((j : Key) → p j ≡ true → HasKey j m → f j ≢ None → j ≢ k → Before cmp k j) → StepIn cmp f p m r
 
-look_nil : (K : Fields) → look [] K ≡ none
+look_nil : (K : Fields) → look [] K ≡ None
 unfolding look
 look_nil K = refl
 
@@ -67,9 +67,9 @@ module _ {cmp : Fields → Fields → Ordering} (L : Order cmp) (f : Key → Opt
       after j n (has_key x u l) = L.by_key k j v x (λ e. n (sym e)) (above_look L (version k v) a (version j x) (ver_rec j x u) l)
 
       has : (z : Option Bytes) → f k ≡ z → p k ≡ true → StepIn cmp f p m (first_shown f (keys_in p m)) → StepIn cmp f p (ver_rec k v o ∷ m) (or_later k z (first_shown f (keys_in p m)))
-      has (some w) e t i = in_key k w refl t e (λ j u h q d. after j d (other j d h))
-      has none e t (in_end i b) = in_end i (λ j u h. by_cases (key≟ j k) (λ q. rw q e) (λ q. b j u (other j q h)))
-      has none e t (in_key c w i y q b) = in_key c w i y q (λ j u h z d. by_cases (key≟ j k) (λ y. absurd (z (rw y e))) (λ y. b j u (other j y h) z d))
+      has (Some w) e t i = in_key k w refl t e (λ j u h q d. after j d (other j d h))
+      has None e t (in_end i b) = in_end i (λ j u h. by_cases (key≟ j k) (λ q. rw q e) (λ q. b j u (other j q h)))
+      has None e t (in_key c w i y q b) = in_key c w i y q (λ j u h z d. by_cases (key≟ j k) (λ y. absurd (z (rw y e))) (λ y. b j u (other j y h) z d))
 
       go : (b : Bool) → p k ≡ b → StepIn cmp f p m (first_shown f (keys_in p m)) → StepIn cmp f p (ver_rec k v o ∷ m) (first_shown f (cond b (k ∷ keys_in p m) (keys_in p m)))
       go true t i = has (f k) refl t i
@@ -80,9 +80,9 @@ pub scan_step_lem : {cmp : Fields → Fields → Ordering} → Order cmp → {m 
 unfolding scan_step
 scan_step_lem {cmp} L {m} s h p = go (step_in_lem L (shown m h) p s)
   where
-    decide : (k : Key) (z : Option Bytes) → shown m h k ≡ z → (HasKey k m → shown m h k ≡ none) → shown m h k ≡ none
-    decide k none e q = e
-    decide k (some v) e q = q (shown_has L s h k (λ i. nope (cc)))
+    decide : (k : Key) (z : Option Bytes) → shown m h k ≡ z → (HasKey k m → shown m h k ≡ None) → shown m h k ≡ None
+    decide k None e q = e
+    decide k (Some v) e q = q (shown_has L s h k (λ i. nope (cc)))
 
     go : {r : Option (Key × Bytes)} → StepIn cmp (shown m h) p m r → Step cmp (shown m h) p r
     go (in_end i a) = at_end i (λ k t. decide k (shown m h k) refl (a k t))

@@ -4,7 +4,7 @@ use Prim.Native.Nat.{ℕ, ◌<◌}
 use native.Mathlib.Omega.{arith}
 use mathlib.Core.Path.{◌≡◌, refl, sym, ◌∙◌}
 use mathlib.Core.Logic.{◌≢◌, inl, inr, by_cases}
-use mathlib.Core.Option.{Option, none, some}
+use Rattle.std.specs.Prelude.{Option, None, Some}
 use mathlib.Core.List.{◌∷◌}
 use native.Mathlib.Decide.{ℕ_discrete}
 use Rattle.isolation.specs.history.History.{Key, Bytes, key≟}
@@ -20,7 +20,7 @@ stored_began {H} {h} g (g_began e s lw) k v = go (ℕ_discrete h.ver v)
     go (yes p) = let u : status H v ≡ unborn = outside g v (inr (omega arith)) in rw (write_began h H v k, unborn_writes g v k u, u, ← p, status-began h H)
     go (no n) = rw (status_began_other h H n, write_began h H v k)
 
-pub stored_wrote : (H : History) (t : ℕ) → status H t ≡ opened → (k : Key) (o : Option Bytes) → stored (wrote t k o ∷ H) k t ≡ some o
+pub stored_wrote : (H : History) (t : ℕ) → status H t ≡ opened → (k : Key) (o : Option Bytes) → stored (wrote t k o ∷ H) k t ≡ Some o
 stored_wrote H t a k o = rw (status-wrote H t k o t, a, write_same H t k o)
 
 pub stored_wrote_txn : (H : History) {t v : ℕ} (j : Key) (o : Option Bytes) (k : Key) → t ≢ v → stored (wrote t j o ∷ H) k v ≡ stored H k v
@@ -36,7 +36,7 @@ stored_committed H t a k v = go (ℕ_discrete t v)
     go (yes p) = rw (← p, status-committed H t, a, write_committed t H t k)
     go (no n) = rw (status_committed_other H n, write_committed t H v k)
 
-pub stored_undone : (H : History) (t : ℕ) (k : Key) → stored (undone t ∷ H) k t ≡ none
+pub stored_undone : (H : History) (t : ℕ) (k : Key) → stored (undone t ∷ H) k t ≡ None
 stored_undone H t k = rw (status-undone H t)
 
 pub stored_undone_other : (H : History) {t v : ℕ} (k : Key) → t ≢ v → stored (undone t ∷ H) k v ≡ stored H k v
@@ -47,10 +47,10 @@ stored_noted H k v = rw (status-noted H v, write_noted H v k)
 
 -- a stored version belongs to a transaction that is open or committed and wrote the key
 pub data Alive (H : History) (k : Key) (x : ℕ) : Type 0 where
-  alive_open : status H x ≡ opened → last_write H x k ≢ none → Alive H k x
-  alive_done : status H x ≡ done → last_write H x k ≢ none → Alive H k x
+  alive_open : status H x ≡ opened → last_write H x k ≢ None → Alive H k x
+  alive_done : status H x ≡ done → last_write H x k ≢ None → Alive H k x
 
-pub alive : {H : History} (k : Key) (x : ℕ) → stored H k x ≢ none → Alive H k x
+pub alive : {H : History} (k : Key) (x : ℕ) → stored H k x ≢ None → Alive H k x
 alive {H} k x n = go (status H x) refl
   where
     go : (s : Status) → status H x ≡ s → Alive H k x
@@ -60,7 +60,7 @@ alive {H} k x n = go (status H x) refl
     go rolled e = absurd (n (rw e))
 
 -- with no clash, every other stored version was committed before the transaction began
-pub settle : {H : History} (t : ℕ) (k : Key) → ¬ Clash H t k → (x : ℕ) → x ≢ t → stored H k x ≢ none → status (past H t) x ≡ done
+pub settle : {H : History} (t : ℕ) (k : Key) → ¬ Clash H t k → (x : ℕ) → x ≢ t → stored H k x ≢ None → status (past H t) x ≡ done
 settle {H} t k c x d n = go (alive k x n)
   where
     go : Alive H k x → status (past H t) x ≡ done
@@ -69,10 +69,10 @@ settle {H} t k c x d n = go (alive k x n)
 
 -- one step: a stored version was stored, or is just written
 pub data Fresh (H : History) (e : Event) (k : Key) (v : ℕ) : Type 0 where
-  old : stored H k v ≢ none → past (e ∷ H) v ≡ past H v → Fresh H e k v
+  old : stored H k v ≢ None → past (e ∷ H) v ≡ past H v → Fresh H e k v
   new : status H v ≡ opened → ¬ Clash H v k → past (e ∷ H) v ≡ past H v → ((x : ℕ) → v ≢ x → stored (e ∷ H) k x ≡ stored H k x) → Fresh H e k v
 
-pub fresh : {H : History} {e : Event} → Good H → Guard H e → (k : Key) (v : ℕ) → stored (e ∷ H) k v ≢ none → Fresh H e k v
+pub fresh : {H : History} {e : Event} → Good H → Guard H e → (k : Key) (v : ℕ) → stored (e ∷ H) k v ≢ None → Fresh H e k v
 fresh {H} g (g_began {h = h} e s lw) k v n = go (ℕ_discrete h.ver v)
   where
     go : Dec (h.ver ≡ v) → Fresh H (began h) k v
@@ -93,17 +93,17 @@ fresh {H} g (g_undone {t = t} a) k v n = go (ℕ_discrete t v)
 fresh {H} g g_noted k v n = old (λ q. n (stored_noted H k v ∙ q)) (past-noted H v)
 
 -- THE HEART: of two stored versions of a key, the lower was committed before the higher began
-pub apart : {H : History} → Good H → (k : Key) (v w : ℕ) → v < w → stored H k v ≢ none → stored H k w ≢ none → status (past H w) v ≡ done
+pub apart : {H : History} → Good H → (k : Key) (v w : ℕ) → v < w → stored H k v ≢ None → stored H k w ≢ None → status (past H w) v ≡ done
 unfolding status
 apart good_nil k v w l a b = absurd (a refl)
 apart (good_cons {H = H} {e = e} g q) k v w l a b = go (apart g k v w l) (fresh g q k v a) (fresh g q k w b)
   where
-    go : (stored H k v ≢ none → stored H k w ≢ none → status (past H w) v ≡ done) → Fresh H e k v → Fresh H e k w → status (past (e ∷ H) w) v ≡ done
+    go : (stored H k v ≢ None → stored H k w ≢ None → status (past H w) v ≡ done) → Fresh H e k v → Fresh H e k w → status (past (e ∷ H) w) v ≡ done
     go rec (old x p) (old y r) = rw r (rec x y)
     go rec (old x p) (new o c r u) = rw r (settle w k c v (λ i. omega arith) x)
     go rec (new o c p u) f = absurd (high (start g v (λ i. nope (cc))))
       where
-        first : stored H k w ≢ none
+        first : stored H k w ≢ None
         first i = b (u w (λ i. omega arith) ∙ i)
 
         early : status (past H v) w ≡ done

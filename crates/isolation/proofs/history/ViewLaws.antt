@@ -4,7 +4,7 @@ use native.Mathlib.Omega.{arith}
 use mathlib.Core.Path.{◌≡◌, refl, sym, ◌∙◌}
 use mathlib.Core.Bool.{Bool, true, false}
 use mathlib.Core.Logic.{◌≢◌, inl, inr, if_pos, by_cases}
-use mathlib.Core.Option.{Option, none, some}
+use Rattle.std.specs.Prelude.{Option, None, Some}
 use mathlib.Core.List.{List, [], ◌∷◌}
 use native.Mathlib.Decide.{ℕ_discrete, dec_lt}
 use Rattle.isolation.specs.history.History.{Key, Bytes}
@@ -32,11 +32,11 @@ top_unique {f} {r} {s} (top_at x e n) (top_at y i m) = go (dec_lt x y) (dec_lt y
     go (no p) (yes q) = nope (cc (m x q))
     go (no p) (no q) = let z : x ≡ y = omega arith in cc
 
-pub keep-none : (b : Bool) → keep {A = Option Bytes} b none ≡ none
+pub keep-none : (b : Bool) → keep {A = Option Bytes} b None ≡ None
 keep-none true = refl
 keep-none false = refl
 
-not_done : (s : Status) (y : Option (Option Bytes)) → s ≢ done → keep (is_done s) y ≡ none
+not_done : (s : Status) (y : Option (Option Bytes)) → s ≢ done → keep (is_done s) y ≡ None
 not_done unborn y n = refl
 not_done opened y n = refl
 not_done done y n = absurd (n refl)
@@ -53,17 +53,17 @@ settled_same {H} {e} g q k x i = by_cases (Status-discrete (status H x) done) wa
     wasn't d = not_done (status (e ∷ H) x) _ (λ s. d (i s)) ∙ sym (not_done (status H x) _ d)
 
 -- a stored version above an open writer's own: there is none
-pub open_is_top : {H : History} → Good H → (t : ℕ) (k : Key) → status H t ≡ opened → last_write H t k ≢ none → (y : ℕ) → t < y → stored H k y ≡ none
+pub open_is_top : {H : History} → Good H → (t : ℕ) (k : Key) → status H t ≡ opened → last_write H t k ≢ None → (y : ℕ) → t < y → stored H k y ≡ None
 open_is_top {H} g t k a w y l = go (stored H k y) refl
   where
-    here : stored H k t ≢ none
+    here : stored H k t ≢ None
     here i = w (rw a at i)
 
-    go : (z : Option (Option Bytes)) → stored H k y ≡ z → stored H k y ≡ none
-    go none e = e
-    go (some o) e = nope (cc (ended-stays (start g y up).after g t (rw early), early))
+    go : (z : Option (Option Bytes)) → stored H k y ≡ z → stored H k y ≡ None
+    go None e = e
+    go (Some o) e = nope (cc (ended-stays (start g y up).after g t (rw early), early))
       where
-        there : stored H k y ≢ none
+        there : stored H k y ≢ None
         there i = nope (cc)
 
         early : status (past H y) t ≡ done
@@ -72,10 +72,10 @@ open_is_top {H} g t k a w y l = go (stored H k y) refl
         up : status H y ≢ unborn
         up u = there (rw u)
 
-settled_none : (H : History) (k : Key) (y : ℕ) → stored H k y ≡ none → settled H k y ≡ none
+settled_none : (H : History) (k : Key) (y : ℕ) → stored H k y ≡ None → settled H k y ≡ None
 settled_none H k y e = go (status H y) refl
   where
-    go : (s : Status) → status H y ≡ s → settled H k y ≡ none
+    go : (s : Status) → status H y ≡ s → settled H k y ≡ None
     go unborn i = rw i
     go opened i = rw i
     go done i = rw i (rw i at e)
@@ -91,12 +91,12 @@ commit_top {H} g t a k r = go (last_write H t k) refl
     own = rw (status-committed H t) (write_committed t H t k)
 
     go : (w : Option (Option Bytes)) → last_write H t k ≡ w → Top (settled (committed t ∷ H) k) (over (last_write H t k) (laid H k))
-    go none e = rw e (top_congr (λ x. eq x (ℕ_discrete t x)) r)
+    go None e = rw e (top_congr (λ x. eq x (ℕ_discrete t x)) r)
       where
         eq : (x : ℕ) → Dec (t ≡ x) → settled (committed t ∷ H) k x ≡ settled H k x
         eq x (yes p) = rw (← p) (own ∙ e ∙ rw a)
         eq x (no n) = others x n
-    go (some o) e = rw e (top_at t (own ∙ e) (λ y l. others y (λ i. omega arith) ∙ settled_none H k y (open_is_top g t k a (λ i. nope (cc)) y l)))
+    go (Some o) e = rw e (top_at t (own ∙ e) (λ y l. others y (λ i. omega arith) ∙ settled_none H k y (open_is_top g t k a (λ i. nope (cc)) y l)))
 
 -- what is laid down is the highest committed version
 pub laid_top : {H : History} → Good H → (k : Key) → Top (settled H k) (laid H k)
@@ -131,13 +131,13 @@ sees {H1} {H} {v} {S} w a g k x = go (status H1 x) refl
     go : (s : Status) → status H1 x ≡ s → keep (below v S x) (stored H k x) ≡ settled H1 k x
     go unborn e = rw e (by_cases (dec_lt x v) near far)
       where
-        zero-none : x ≡ 0 → keep (below v S x) (stored H k x) ≡ none
+        zero-none : x ≡ 0 → keep (below v S x) (stored H k x) ≡ None
         zero-none z = rw (outside g x (inl z)) (keep-none (below v S x))
 
-        near : x < v → keep (below v S x) (stored H k x) ≡ none
+        near : x < v → keep (below v S x) (stored H k x) ≡ None
         near l = by_cases (ℕ_discrete x 0) zero-none (λ n. absurd (born g1 x (omega arith) (omega (arith, w.number)) e))
 
-        far : ¬ (x < v) → keep (below v S x) (stored H k x) ≡ none
+        far : ¬ (x < v) → keep (below v S x) (stored H k x) ≡ None
         far n = rw (w.set x, e, le-ltb x v (omega arith))
     go opened e = rw (w.set x, e)
     go done e = rw (w.set x, e, lt-ltb x v (omega (arith, (within g1 x (λ i. nope (cc))), w.number)), ended-stays a g x (rw e), writes_stay a g x k (rw e), e)
@@ -225,12 +225,12 @@ writer_top {h} {H1} {H} a g op k = go (last_write H t k) refl
     not_in = w.set t ∙ rw (outside (good-after a1 g) t (inr (omega (arith, w.number))))
 
     go : (y : Option (Option Bytes)) → last_write H t k ≡ y → Top (λ x. keep (up_to t S x) (stored H k x)) (over (last_write H t k) (laid H1 k))
-    go (some o) e = rw e (top_at t (rw (not_in, le-leb t t (omega arith), op, e)) (λ y l. rw (lt-leb y t l) (drop (is_in y S) (stored H k y))))
+    go (Some o) e = rw e (top_at t (rw (not_in, le-leb t t (omega arith), op, e)) (λ y l. rw (lt-leb y t l) (drop (is_in y S) (stored H k y))))
       where
-        drop : (b : Bool) (z : Option (Option Bytes)) → keep (not b && false) z ≡ none
+        drop : (b : Bool) (z : Option (Option Bytes)) → keep (not b && false) z ≡ None
         drop true z = refl
         drop false z = refl
-    go none e = rw e (top_congr (λ x. eq x (dec_lt x t) (ℕ_discrete x t)) (reader_top w a1 g k))
+    go None e = rw e (top_congr (λ x. eq x (dec_lt x t) (ℕ_discrete x t)) (reader_top w a1 g k))
       where
         eq : (x : ℕ) → Dec (x < t) → Dec (x ≡ t) → keep (up_to t S x) (stored H k x) ≡ keep (below t S x) (stored H k x)
         eq x (yes l) d = rw (le-leb x t (omega arith), lt-ltb x t l)

@@ -2,17 +2,16 @@
 use Prim.Native.Nat.{ℕ, zero, suc, ◌^◌, ◌<◌}
 use mathlib.Core.Path.{◌≡◌, refl, ap}
 use mathlib.Core.Bool.{true}
-use mathlib.Core.Option.{some}
 use mathlib.Core.List.{[], ◌∷◌}
 use native.Mathlib.Omega.{arith}
 use lib.ListN.{length}
 use lib.Seq.{take_all}
 use borrow.Author.Tests.{lt-ltb}
+use Rattle.std.specs.Prelude.{Some}
 use Rattle.keycode.specs.Number.{be}
 use Rattle.keycode.proofs.NumberLaws.{num-be, length-be}
 use Rattle.keycode.specs.key.Keys.{encode, txn_active}
 use Rattle.bitcask.specs.keydir.Place.{All, all_none, all_more}
-use Rattle.mvcc.specs.declared.payload.VersionRead.TheVariants.{Read}
 use Rattle.mvcc.specs.handle.Handles.{rising, rising_from}
 use Rattle.mvcc.specs.payload.Payloads.{Versions}
 use Rattle.bitcask.specs.engine.Prefixes.{begins}
@@ -25,7 +24,7 @@ use Rattle.isolation.proofs.records.OrderLaws.{order}
 
 -- ---- their keys
 
-active_read : (v : ℕ) → v < 2 ^ 64 → active_in (encode (txn_active v)) ≡ Read v
+active_read : (v : ℕ) → v < 2 ^ 64 → active_in (encode (txn_active v)) ≡ Some v
 unfolding active_in
 active_read v h = rw (length-be 8 v, take_all 8 (be 8 v) (omega (arith, length-be 8 v)), num-be 8 v h)
 
@@ -39,7 +38,7 @@ active_count (wrote_rec v k ∷ m) = active_count m
 active_count (ver_rec k v o ∷ m) = active_count m
 active_count (plain_rec k b ∷ m) = active_count m
 
-pub active_pairs : {m : Map} → All Fine m → active_at (pairs_in m) ≡ some (actives m)
+pub active_pairs : {m : Map} → All Fine m → active_at (pairs_in m) ≡ Some (actives m)
 unfolding active_at active_keys versions_in pairs_of keys_of begins pairs_in actives
 active_pairs all_none = refl
 active_pairs (all_more {x = next_rec n} f a) = active_pairs a

@@ -3,7 +3,7 @@
 use Prim.Native.Nat.{ℕ}
 use mathlib.Core.Path.{◌≡◌, refl, sym, ap, ◌∙◌}
 use mathlib.Core.Bool.{true, false, cond}
-use mathlib.Core.Option.{some}
+use Rattle.std.specs.Prelude.{Some}
 use mathlib.Core.List.{List, [], ◌∷◌, ◌++◌}
 use native.Mathlib.Decide.{ℕ_discrete}
 use lib.Dec.{eqb}
@@ -91,9 +91,9 @@ written_fine v (all_more {x = wrote_rec w k} f a) = wrote_fine v w k f (written_
 written_fine v (all_more {x = ver_rec k w o} f a) = written_fine v a
 written_fine v (all_more {x = plain_rec k b} f a) = written_fine v a
 
-user-back : (v : ℕ) (k : Key) → Wrote v k → user_in (encode (txn_write v k)) ≡ some k
+user-back : (v : ℕ) (k : Key) → Wrote v k → user_in (encode (txn_write v k)) ≡ Some k
 unfolding user_in
-user-back v k f = rw (decode_encode max_key (txn_write v k) f.0 f.1) (ap (λ (F : Fields). some (user_key F)) (fields_placed (txn_write v k)))
+user-back v k f = rw (decode_encode max_key (txn_write v k) f.0 f.1) (ap (λ (F : Fields). Some (user_key F)) (fields_placed (txn_write v k)))
 
 -- ---- what is appended, as keys deleted
 

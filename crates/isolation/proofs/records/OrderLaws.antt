@@ -5,11 +5,11 @@ use Prim.Native.Nat.{ℕ, ◌<◌}
 use mathlib.Core.Path.{◌≡◌, refl, sym, ap, ◌∙◌}
 use mathlib.Core.Logic.{◌≢◌}
 use mathlib.Core.List.{[], ◌++◌, append-nil}
+use Rattle.std.specs.declared.cmp.Ordering.{Ordering as Way}
+use Rattle.std.specs.declared.cmp.Ordering.TheVariants.{Less, Equal, Greater}
 use Rattle.keycode.specs.Number.{be}
 use Rattle.keycode.specs.Strings.{escape}
 use Rattle.keycode.specs.Order.{compare_nat, compare_bytes, and_then}
-use Rattle.keycode.specs.declared.order.Order.{Order as Way}
-use Rattle.keycode.specs.declared.order.Order.TheVariants.{Less, Equal, Greater}
 use Rattle.keycode.proofs.Basics.{nope, Ordered, below, same, above, ordered}
 use Rattle.keycode.proofs.OrderLaws.{nat_equal, nat_greater, and_then_equal, flip, compare_flip, same_head, compare_refl, compare_equal, compare_trans}
 use Rattle.keycode.proofs.NumberLaws.{compare_any}

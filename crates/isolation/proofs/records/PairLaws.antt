@@ -4,11 +4,11 @@ use Prim.Native.Nat.{ℕ}
 use mathlib.Core.Path.{◌≡◌, refl, sym, ap, ◌∙◌, subst}
 use mathlib.Core.Bool.{Bool, true}
 use mathlib.Core.Logic.{◌≢◌}
-use mathlib.Core.Option.{Option, none, some}
+use Rattle.std.specs.Prelude.{Option, None, Some}
 use mathlib.Core.List.{List, [], ◌∷◌}
+use Rattle.std.specs.declared.cmp.Ordering.{Ordering as Way}
+use Rattle.std.specs.declared.cmp.Ordering.TheVariants.{Less, Equal, Greater}
 use Rattle.keycode.specs.Order.{compare_bytes, by_order}
-use Rattle.keycode.specs.declared.order.Order.{Order as Way}
-use Rattle.keycode.specs.declared.order.Order.TheVariants.{Less, Equal, Greater}
 use Rattle.keycode.proofs.Basics.{nope}
 use Rattle.keycode.proofs.OrderLaws.{flip, compare_flip, compare_refl}
 use Rattle.keycode.specs.key.Keys.{Fields, encode}
@@ -87,14 +87,14 @@ cut_pairs K (sorted_cons {r = r} {m = m} a s) = go (stands K r a) (cut_pairs K s
 -- ---- look up
 
 abbrev pub payload_in : Option Rec → Option (List ℕ)
-payload_in none = none
-payload_in (some r) = some (payload_of r)
+payload_in None = None
+payload_in (Some r) = Some (payload_of r)
 
-look_above : (K : Fields) {m : Map} → Above key_order K m → look m K ≡ none
+look_above : (K : Fields) {m : Map} → Above key_order K m → look m K ≡ None
 look_above K above_nil = unfold look in refl
 look_above K (above_cons {r = r} {m = m} q a) = look-past r m (above_other K r q) ∙ look_above K a
 
-look_at : (K : Fields) (r : Rec) (m : Map) → key_of r ≡ K → look (r ∷ m) K ≡ some r
+look_at : (K : Fields) (r : Rec) (m : Map) → key_of r ≡ K → look (r ∷ m) K ≡ Some r
 look_at K r m q = rw (← q) (look-here r m)
 
 pub look-pairs : (K : Fields) {m : Map} → Sorted key_order m → look_in (encode K) (pairs_in m) ≡ payload_in (look m K)
@@ -112,5 +112,5 @@ unfolding live_in
 live-pairs K {m} s = rw (look-pairs K s) (go (look m K))
   where
     go : (o : Option Rec) → Pairs.is_some (payload_in o) ≡ is_some o
-    go none = refl
-    go (some r) = refl
+    go None = refl
+    go (Some r) = refl

@@ -1,7 +1,7 @@
 -- What begin, the writes and the unversioned set append makes of a map's pairs what these calls make of its records. Assumes nothing.
 use Prim.Native.Nat.{ℕ, suc}
 use mathlib.Core.Path.{◌≡◌}
-use mathlib.Core.Option.{Option}
+use Rattle.std.specs.Prelude.{Option}
 use mathlib.Core.List.{List, [], ◌∷◌}
 use native.Mathlib.Numerals.{add-one}
 use Rattle.keycode.specs.key.Keys.{encode, next_version, txn_active_snapshot}

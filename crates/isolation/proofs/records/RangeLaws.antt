@@ -4,15 +4,15 @@ use Prim.Native.Nat.{ℕ, ◌^◌, ◌<◌}
 use mathlib.Core.Path.{◌≡◌, refl, sym, ap, ◌∙◌}
 use mathlib.Core.Bool.{Bool, true, false, ◌&&◌}
 use mathlib.Core.Logic.{◌≢◌, if_pos, if_neg, by_cases}
-use mathlib.Core.Option.{Option}
+use Rattle.std.specs.Prelude.{Option}
 use mathlib.Core.List.{List, ◌∷◌}
 use native.Mathlib.Omega.{arith}
 use lib.Dec.{leb}
 use borrow.Author.Tests.{le-leb, lt-leb}
+use Rattle.std.specs.declared.cmp.Ordering.{Ordering}
+use Rattle.std.specs.declared.cmp.Ordering.TheVariants.{Less, Equal, Greater}
 use Rattle.keycode.specs.Tests.{pick}
 use Rattle.keycode.specs.Order.{compare_nat, compare_bytes, and_then}
-use Rattle.keycode.specs.declared.order.Order.{Order}
-use Rattle.keycode.specs.declared.order.Order.TheVariants.{Less, Equal, Greater}
 use Rattle.keycode.proofs.Basics.{Ordered, below, same, above, ordered}
 use Rattle.keycode.proofs.OrderLaws.{nat_less, nat_equal, nat_greater, compare_equal, compare_refl}
 use Rattle.keycode.specs.key.Keys.{encode, version}
@@ -58,7 +58,7 @@ pairs_cons r m = refl
 -- ---- the range
 
 -- the test by the two orders that it asks for
-tested : Order → Order → Bool
+tested : Ordering → Ordering → Bool
 tested a b = pick (admits_low Included a) (admits_high Included b) false
 
 numbers : (a b v : ℕ) → tested (compare_nat v a) (compare_nat v b) ≡ leb a v && leb v b
@@ -95,7 +95,7 @@ module _ (k : List ℕ) (a b : ℕ) (ha : a < 2 ^ 64) (hb : b < 2 ^ 64) where
   unfolding tested
   range_other j v h n = range_version j v h ∙ go (compare_bytes j k) refl
     where
-      go : (o : Order) → compare_bytes j k ≡ o → tested (and_then o (compare_nat v a)) (and_then o (compare_nat v b)) ≡ false
+      go : (o : Ordering) → compare_bytes j k ≡ o → tested (and_then o (compare_nat v a)) (and_then o (compare_nat v b)) ≡ false
       go Less e = refl
       go Equal e = absurd (n (compare_equal j k e))
       go Greater e = refl

@@ -4,13 +4,13 @@ use Prim.Native.Nat.{ℕ, zero, suc, ◌<◌}
 use mathlib.Core.Path.{◌≡◌, refl, sym, ap, ◌∙◌}
 use mathlib.Core.Bool.{Bool, true, false}
 use mathlib.Core.Logic.{◌≢◌}
-use mathlib.Core.Option.{Option, none, some}
+use Rattle.std.specs.Prelude.{Option, None, Some}
 use mathlib.Core.List.{List, [], ◌∷◌}
 use native.Mathlib.Omega.{arith}
+use Rattle.std.specs.declared.cmp.Ordering.TheVariants.{Less}
 use Rattle.keycode.specs.Tests.{pick}
 use Rattle.keycode.specs.Strings.{escape_byte, escape_body, escape}
 use Rattle.keycode.specs.Order.{compare_nat, compare_bytes}
-use Rattle.keycode.specs.declared.order.Order.TheVariants.{Less}
 use Rattle.keycode.proofs.Basics.{nope}
 use Rattle.keycode.proofs.OrderLaws.{and_then_equal, compare_flip, compare_refl}
 use Rattle.keycode.specs.key.Keys.{Fields, next_version, txn_active, txn_active_snapshot, txn_write, version, unversioned, tag_of, encode}
@@ -70,7 +70,7 @@ module _ (lower : Bound) (low : List ℕ) (upper : Bound) (high : List ℕ) (giv
   by_bounds = record { versions = λ k v h. scanned-user k v h lower low upper high given last; others = bounds_only }
 
   pub scan_pairs : (h : Handle) {m : Map} → All Fine m
-      → step_pairs h (pairs_of (scanned lower low upper high given last) (pairs_in m)) ≡ some (given_of (scan_step m (sight_of h) (admitted lower low upper high given last)))
+      → step_pairs h (pairs_of (scanned lower low upper high given last) (pairs_in m)) ≡ Some (given_of (scan_step m (sight_of h) (admitted lower low upper high given last)))
   scan_pairs h a = step-pairs h by_bounds a
 
 module _ (prefix : List ℕ) (given : Bool) (last : List ℕ) where
@@ -87,7 +87,7 @@ module _ (prefix : List ℕ) (given : Bool) (last : List ℕ) where
   by_prefix = record { versions = λ k v h. prefixed-user k v h prefix given last; others = prefix_only }
 
   pub prefix_pairs : (h : Handle) {m : Map} → All Fine m
-      → step_pairs h (pairs_of (prefixed prefix given last) (pairs_in m)) ≡ some (given_of (scan_step m (sight_of h) (prefix_past prefix given last)))
+      → step_pairs h (pairs_of (prefixed prefix given last) (pairs_in m)) ≡ Some (given_of (scan_step m (sight_of h) (prefix_past prefix given last)))
   prefix_pairs h a = step-pairs h by_prefix a
 
 -- ---- first in the order of the bytes
@@ -100,8 +100,8 @@ pub step-first : {f : Key → Option Bytes} {p : Key → Bool} {r : Option (Key 
 step-first (at_end e a) = none-shows e a
 step-first {f} {p} (at_key k x e t q a) = first-shows k x e t q (λ j i l. go j i l (f j) refl)
   where
-    go : (j : Key) → p j ≡ true → compare_bytes j k ≡ Less → (z : Option Bytes) → f j ≡ z → f j ≡ none
-    go j i l none c = c
-    go j i l (some y) c =
+    go : (j : Key) → p j ≡ true → compare_bytes j k ≡ Less → (z : Option Bytes) → f j ≡ z → f j ≡ None
+    go j i l None c = c
+    go j i l (Some y) c =
         let n : j ≢ k = λ u. nope (cc (compare_refl k, ap (λ (w : Key). compare_bytes w k) u)) in
         nope (cc (compare_flip k j, before_less k j (a j i (λ u. nope (cc)) n)))

@@ -3,17 +3,17 @@ use Prim.Native.Nat.{ℕ, ◌-◌, ◌^◌, ◌<◌, ◌≤◌}
 use mathlib.Core.Path.{◌≡◌, refl, ap, ◌∙◌}
 use mathlib.Core.Bool.{Bool, true, false, not}
 use mathlib.Core.Logic.{by_cases}
-use mathlib.Core.Option.{Option, none, some}
 use mathlib.Core.List.{List, [], ◌∷◌}
 use native.Mathlib.Omega.{arith}
 use lib.ListN.{length}
+use Rattle.std.specs.Prelude.{Result, ⊤, Option, None, Some, Ok, Err}
+use Rattle.keycode.specs.declared.refusal.Refusal.{Refusal}
 use Rattle.keycode.specs.Tests.{pick}
 use Rattle.keycode.specs.Limits.{max_key}
 use Rattle.keycode.specs.declared.refusal.Refusal.TheVariants.{Conflict}
 use Rattle.keycode.specs.key.Keys.{encode, version}
 use Rattle.keycode.proofs.key.KeyLaws.{decode_encode}
 use Rattle.bitcask.specs.keydir.Place.{All, all_none, all_more}
-use Rattle.bitcask.specs.declared.append.Check.{Check}
 use Rattle.mvcc.specs.declared.handle.Handle.{Handle}
 use Rattle.mvcc.specs.handle.Handles.{set_of, sees}
 use Rattle.mvcc.specs.payload.Payloads.{Versions}
@@ -29,9 +29,9 @@ use Rattle.isolation.proofs.records.RangeLaws.{version_range, version_yes, versi
 
 -- ---- the last record of any
 
-abbrev judged : Handle → Option Rec → Check
-judged h none = Check.Fine
-judged h (some r) = seen_bytes h (encode (key_of r))
+abbrev judged : Handle → Option Rec → Result ⊤ Refusal
+judged h None = (Ok tt)
+judged h (Some r) = seen_bytes h (encode (key_of r))
 
 search_last : (h : Handle) (m : Map) → search_by h (pairs_in m) ≡ judged h (last_of m)
 unfolding search_by pairs_in last_of
@@ -40,8 +40,8 @@ search_last h (r ∷ []) = refl
 search_last h (r ∷ s ∷ m) = search_last h (s ∷ m) ∙ go (last_of m)
   where
     go : (z : Option Rec) → judged h (back z s) ≡ judged h (back (back z s) r)
-    go none = refl
-    go (some x) = refl
+    go None = refl
+    go (Some x) = refl
 
 -- ---- of a key's versions
 
@@ -50,34 +50,34 @@ module _ (h : Handle) (writes : h.read_only ≡ false) where
   unfolding visible
   sees-upto v = sees-visible h v ∙ rw writes
 
-  turned : (b : Bool) → pick b Check.Fine (Check.Refused Conflict) ≡ pick (not b) (Check.Refused Conflict) Check.Fine
+  turned : (b : Bool) → ◌≡◌ {A = Result ⊤ Refusal} (pick b (Ok tt) (Err Conflict)) (pick (not b) (Err Conflict) (Ok tt))
   turned true = refl
   turned false = refl
 
   record_judged : (k : List ℕ) (v : ℕ) (o : Option (List ℕ)) → v < 2 ^ 64 → length k ≤ max_key
-      → judged h (some (ver_rec k v o)) ≡ pick (hides (sight_of h) (some (ver_rec k v o))) (Check.Refused Conflict) Check.Fine
+      → judged h (Some (ver_rec k v o)) ≡ pick (hides (sight_of h) (Some (ver_rec k v o))) (Err Conflict) (Ok tt)
   unfolding seen_bytes
   record_judged k v o hv hk = rw (decode_encode max_key (version k v) hv hk, sees-upto v) (turned (up_to h.version (set_of h) v))
 
   module _ (j : List ℕ) (v : ℕ) (o : Option (List ℕ)) (hv : v < 2 ^ 64) (hj : length j ≤ max_key) where
-    back-judged : (z : Option Rec) → judged h z ≡ pick (hides (sight_of h) z) (Check.Refused Conflict) Check.Fine
-        → judged h (back z (ver_rec j v o)) ≡ pick (hides (sight_of h) (back z (ver_rec j v o))) (Check.Refused Conflict) Check.Fine
-    back-judged none i = record_judged j v o hv hj
-    back-judged (some r) i = i
+    back-judged : (z : Option Rec) → judged h z ≡ pick (hides (sight_of h) z) (Err Conflict) (Ok tt)
+        → judged h (back z (ver_rec j v o)) ≡ pick (hides (sight_of h) (back z (ver_rec j v o))) (Err Conflict) (Ok tt)
+    back-judged None i = record_judged j v o hv hj
+    back-judged (Some r) i = i
 
     version-judged : (p : ℕ → Bool) (k : List ℕ) (m : Map)
-        → judged h (last_of (versions_of p k m)) ≡ pick (hides (sight_of h) (last_of (versions_of p k m))) (Check.Refused Conflict) Check.Fine
-        → judged h (last_of (versions_of p k (ver_rec j v o ∷ m))) ≡ pick (hides (sight_of h) (last_of (versions_of p k (ver_rec j v o ∷ m)))) (Check.Refused Conflict) Check.Fine
+        → judged h (last_of (versions_of p k m)) ≡ pick (hides (sight_of h) (last_of (versions_of p k m))) (Err Conflict) (Ok tt)
+        → judged h (last_of (versions_of p k (ver_rec j v o ∷ m))) ≡ pick (hides (sight_of h) (last_of (versions_of p k (ver_rec j v o ∷ m)))) (Err Conflict) (Ok tt)
     unfolding last_of
     version-judged p k m i = by_cases (key≟ j k) (λ e. own e (p v) refl) (λ n. rw (version-other p v o m n) i)
       where
         own : j ≡ k → (b : Bool) → p v ≡ b
-            → judged h (last_of (versions_of p k (ver_rec j v o ∷ m))) ≡ pick (hides (sight_of h) (last_of (versions_of p k (ver_rec j v o ∷ m)))) (Check.Refused Conflict) Check.Fine
+            → judged h (last_of (versions_of p k (ver_rec j v o ∷ m))) ≡ pick (hides (sight_of h) (last_of (versions_of p k (ver_rec j v o ∷ m)))) (Err Conflict) (Ok tt)
         own e true q = rw (version_yes p v o m e q) (back-judged (last_of (versions_of p k m)) i)
         own e false q = rw (version_no p v o m e q) i
 
   last-judged : (p : ℕ → Bool) (k : List ℕ) {m : Map} → All Fine m
-      → judged h (last_of (versions_of p k m)) ≡ pick (hides (sight_of h) (last_of (versions_of p k m))) (Check.Refused Conflict) Check.Fine
+      → judged h (last_of (versions_of p k m)) ≡ pick (hides (sight_of h) (last_of (versions_of p k m))) (Err Conflict) (Ok tt)
   unfolding versions_of last_of
   last-judged p k all_none = refl
   last-judged p k (all_more {x = next_rec n} f a) = last-judged p k a
@@ -95,7 +95,7 @@ module _ (h : Handle) (writes : h.read_only ≡ false) where
         go [] w = omega arith
         go (x ∷ s) w = w 0
 
-    pub search_pairs : (k : List ℕ) {m : Map} → All Fine m → search_by h (pairs_of (searched h k) (pairs_in m)) ≡ pick (conflict m (sight_of h) k) (Check.Refused Conflict) Check.Fine
+    pub search_pairs : (k : List ℕ) {m : Map} → All Fine m → search_by h (pairs_of (searched h k) (pairs_in m)) ≡ pick (conflict m (sight_of h) k) (Err Conflict) (Ok tt)
     unfolding searched conflict
     search_pairs k {m} a =
         ap (λ (n : ℕ). search_by h (pairs_of (version_range k n last_version) (pairs_in m))) (lowest_of_lem h below)

@@ -3,7 +3,7 @@ use Prim.Native.Nat.{ℕ, ◌^◌, ◌<◌, ◌≤◌}
 use mathlib.Core.Path.{◌≡◌, refl, ap, ◌∙◌}
 use mathlib.Core.Bool.{Bool, true, false, not, ◌&&◌, cond}
 use mathlib.Core.Logic.{by_cases}
-use mathlib.Core.Option.{Option, none, some}
+use Rattle.std.specs.Prelude.{Option, None, Some}
 use mathlib.Core.List.{List, ◌∷◌}
 use native.Mathlib.Omega.{arith}
 use lib.Dec.{leb, ltb}
@@ -30,7 +30,7 @@ use Rattle.isolation.proofs.records.RangeLaws.{between, version_yes, version_no,
 -- ---- one record
 
 module _ (h : Handle) (k : List ℕ) (v : ℕ) (o : Option (List ℕ)) (hv : v < 2 ^ 64) (hk : length k ≤ max_key) where
-  record_says : pair_says h (pair_of (ver_rec k v o)) ≡ pick (sees h v) (some (some o)) none
+  record_says : pair_says h (pair_of (ver_rec k v o)) ≡ pick (sees h v) (Some (Some o)) None
   unfolding pair_says payload_of
   record_says = rw (decode_encode max_key (version k v) hv hk, first_reads.value o)
 
@@ -38,20 +38,20 @@ module _ (h : Handle) (k : List ℕ) (v : ℕ) (o : Option (List ℕ)) (hv : v <
 
 -- what the records say where one is the last that is seen
 abbrev said : Option Rec → Option (Option (Option (List ℕ)))
-said none = none
-said (some r) = some (some (flat (item_of (some r))))
+said None = None
+said (Some r) = Some (Some (flat (item_of (Some r))))
 
-said_back : (z : Option Rec) (k : List ℕ) (v : ℕ) (o : Option (List ℕ)) → or_pair (said z) (some (some o)) ≡ said (back z (ver_rec k v o))
-said_back none k v o = refl
-said_back (some r) k v o = refl
+said_back : (z : Option Rec) (k : List ℕ) (v : ℕ) (o : Option (List ℕ)) → or_pair (said z) (Some (Some o)) ≡ said (back z (ver_rec k v o))
+said_back None k v o = refl
+said_back (Some r) k v o = refl
 
-said_none : (z : Option Rec) → or_pair (said z) none ≡ said z
-said_none none = refl
-said_none (some r) = refl
+said_none : (z : Option Rec) → or_pair (said z) None ≡ said z
+said_none None = refl
+said_none (Some r) = refl
 
-said_shown : (z : Option Rec) → or_gone (said z) ≡ some (flat (item_of z))
-said_shown none = refl
-said_shown (some r) = refl
+said_shown : (z : Option Rec) → or_gone (said z) ≡ Some (flat (item_of z))
+said_shown None = refl
+said_shown (Some r) = refl
 
 pub last_cons : (r : Rec) (m : Map) → last_of (r ∷ m) ≡ back (last_of m) r
 unfolding last_of
@@ -81,7 +81,7 @@ module _ (h : Handle) (k : List ℕ) where
       (λ e. own e (visible (sight_of h) v) refl (between 0 h.version v) refl)
       (λ n. rw (version-other (between 0 h.version) v o m n, version-other (visible (sight_of h)) v o m n) i)
     where
-      says : (b : Bool) → visible (sight_of h) v ≡ b → pair_says h (pair_of (ver_rec j v o)) ≡ pick b (some (some o)) none
+      says : (b : Bool) → visible (sight_of h) v ≡ b → pair_says h (pair_of (ver_rec j v o)) ≡ pick b (Some (Some o)) None
       says b e = record_says h j v o hv hj ∙ rw (sees-visible h v, e)
 
       own : j ≡ k → (b : Bool) → visible (sight_of h) v ≡ b → (c : Bool) → between 0 h.version v ≡ c
@@ -106,7 +106,7 @@ module _ (h : Handle) (k : List ℕ) where
   seen_last (all_more {x = ver_rec j v o} {xs = m} f a) = seen_ver j v o m f.0 f.1 (seen_last a)
   seen_last (all_more {x = plain_rec j b} f a) = seen_last a
 
-  pub value-pairs : h.version < 2 ^ 64 → {m : Map} → All Fine m → value_for h (pairs_of (version_test k h.version) (pairs_in m)) ≡ some (shown m (sight_of h) k)
+  pub value-pairs : h.version < 2 ^ 64 → {m : Map} → All Fine m → value_for h (pairs_of (version_test k h.version) (pairs_in m)) ≡ Some (shown m (sight_of h) k)
   unfolding value_for shown
   value-pairs hv {m} a =
       ap (λ (l : List Pair). or_gone (last_pair h l)) (range_pairs k 0 h.version (omega arith) hv a) ∙ ap or_gone (seen_last a)

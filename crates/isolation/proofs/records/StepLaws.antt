@@ -3,7 +3,7 @@ use Prim.Native.Nat.{ℕ, ◌^◌, ◌<◌, ◌≤◌}
 use mathlib.Core.Path.{◌≡◌, refl, sym, ap, ◌∙◌}
 use mathlib.Core.Bool.{Bool, true, false, cond}
 use mathlib.Core.Logic.{◌≢◌, by_cases}
-use mathlib.Core.Option.{Option, none, some}
+use Rattle.std.specs.Prelude.{Option, None, Some}
 use mathlib.Core.List.{List, [], ◌∷◌}
 use lib.ListN.{length}
 use Rattle.keycode.specs.Tests.{pick}
@@ -38,15 +38,15 @@ module _ (h : History.Sight) (k : Key) (v : ℕ) (o : Option Bytes) (m : Map) wh
   shown-other j n = ap (λ (l : List Rec). flat (item_of (last_of l))) (version-other (visible h) v o m n)
 
   -- a later version decides
-  shown-later : shown (ver_rec k v o ∷ m) h k ≡ none → shown m h k ≡ none
+  shown-later : shown (ver_rec k v o ∷ m) h k ≡ None → shown m h k ≡ None
   unfolding shown last_of
   shown-later = go (visible h v) refl
     where
-      by : (z : Option Rec) → flat (item_of (back z (ver_rec k v o))) ≡ none → flat (item_of z) ≡ none
-      by none e = refl
-      by (some r) e = e
+      by : (z : Option Rec) → flat (item_of (back z (ver_rec k v o))) ≡ None → flat (item_of z) ≡ None
+      by None e = refl
+      by (Some r) e = e
 
-      go : (b : Bool) → visible h v ≡ b → flat (item_of (last_of (versions_of (visible h) k (ver_rec k v o ∷ m)))) ≡ none → flat (item_of (last_of (versions_of (visible h) k m))) ≡ none
+      go : (b : Bool) → visible h v ≡ b → flat (item_of (last_of (versions_of (visible h) k (ver_rec k v o ∷ m)))) ≡ None → flat (item_of (last_of (versions_of (visible h) k m))) ≡ None
       go true q e = by (last_of (versions_of (visible h) k m)) (ap (λ (l : List Rec). flat (item_of (last_of l))) (sym (version_yes (visible h) v o m refl q)) ∙ e)
       go false q e = ap (λ (l : List Rec). flat (item_of (last_of l))) (sym (version_no (visible h) v o m refl q)) ∙ e
 
@@ -66,12 +66,12 @@ first-same f g p q (plain_rec k b ∷ m) = first-same f g p q m
 
 -- ---- one record
 
-stamp_version : (k : List ℕ) (v : ℕ) → v < 2 ^ 64 → length k ≤ max_key → stamp_of (encode (version k v)) ≡ some (record { user = k; version = v })
+stamp_version : (k : List ℕ) (v : ℕ) → v < 2 ^ 64 → length k ≤ max_key → stamp_of (encode (version k v)) ≡ Some (record { user = k; version = v })
 unfolding stamp_of
-stamp_version k v hv hk = rw (decode_encode max_key (version k v) hv hk) (ap (λ (u : List ℕ). some (record { user = u; version = v })) (ap user_key (fields_placed (version k v))))
+stamp_version k v hv hk = rw (decode_encode max_key (version k v) hv hk) (ap (λ (u : List ℕ). Some (record { user = u; version = v })) (ap user_key (fields_placed (version k v))))
 
 -- a version's record is to a handle what the history sees
-record_sight : (h : Handle) (k : List ℕ) (v : ℕ) (o : Option (List ℕ)) → Steps.sight_of h (record { user = k; version = v }) (payload_of (ver_rec k v o)) ≡ pick (visible (sight_of h) v) (sight_by k (some o)) hidden
+record_sight : (h : Handle) (k : List ℕ) (v : ℕ) (o : Option (List ℕ)) → Steps.sight_of h (record { user = k; version = v }) (payload_of (ver_rec k v o)) ≡ pick (visible (sight_of h) v) (sight_by k (Some o)) hidden
 unfolding Steps.sight_of payload_of
 record_sight h k v o = rw (sees-visible h v, first_reads.value o)
 
@@ -79,35 +79,35 @@ record_sight h k v o = rw (sees-visible h v, first_reads.value o)
 
 -- what the last version that is seen says of its key
 abbrev held : List ℕ → Option Rec → Sight
-held k none = hidden
-held k (some r) = sight_by k (some (flat (item_of (some r))))
+held k None = hidden
+held k (Some r) = sight_by k (Some (flat (item_of (Some r))))
 
-held_back : (k : List ℕ) (z : Option Rec) (j : List ℕ) (v : ℕ) (o : Option (List ℕ)) → or_sight (held k z) (sight_by k (some o)) ≡ held k (back z (ver_rec j v o))
-held_back k none j v o = refl
-held_back k (some r) j v o = go (flat (item_of (some r)))
+held_back : (k : List ℕ) (z : Option Rec) (j : List ℕ) (v : ℕ) (o : Option (List ℕ)) → or_sight (held k z) (sight_by k (Some o)) ≡ held k (back z (ver_rec j v o))
+held_back k None j v o = refl
+held_back k (Some r) j v o = go (flat (item_of (Some r)))
   where
-    go : (x : Option (List ℕ)) → or_sight (sight_by k (some x)) (sight_by k (some o)) ≡ sight_by k (some x)
-    go none = refl
-    go (some y) = refl
+    go : (x : Option (List ℕ)) → or_sight (sight_by k (Some x)) (sight_by k (Some o)) ≡ sight_by k (Some x)
+    go None = refl
+    go (Some y) = refl
 
 held_hidden : (k : List ℕ) (z : Option Rec) → or_sight (held k z) hidden ≡ held k z
-held_hidden k none = refl
-held_hidden k (some r) = go (flat (item_of (some r)))
+held_hidden k None = refl
+held_hidden k (Some r) = go (flat (item_of (Some r)))
   where
-    go : (x : Option (List ℕ)) → or_sight (sight_by k (some x)) hidden ≡ sight_by k (some x)
-    go none = refl
-    go (some y) = refl
+    go : (x : Option (List ℕ)) → or_sight (sight_by k (Some x)) hidden ≡ sight_by k (Some x)
+    go None = refl
+    go (Some y) = refl
 
-held_gives : (k : List ℕ) (z : Option Rec) (r : Option (Key × Bytes)) → step_by true (held k z) (some (given_of r)) ≡ some (given_of (or_later k (flat (item_of z)) r))
-held_gives k none r = refl
-held_gives k (some s) r = go (flat (item_of (some s)))
+held_gives : (k : List ℕ) (z : Option Rec) (r : Option (Key × Bytes)) → step_by true (held k z) (Some (given_of r)) ≡ Some (given_of (or_later k (flat (item_of z)) r))
+held_gives k None r = refl
+held_gives k (Some s) r = go (flat (item_of (Some s)))
   where
-    go : (x : Option (List ℕ)) → step_by true (sight_by k (some x)) (some (given_of r)) ≡ some (given_of (or_later k x r))
-    go none = refl
-    go (some y) = refl
+    go : (x : Option (List ℕ)) → step_by true (sight_by k (Some x)) (Some (given_of r)) ≡ Some (given_of (or_later k x r))
+    go None = refl
+    go (Some y) = refl
 
 module _ (h : Handle) (k : List ℕ) (l : List Pair) (j : List ℕ) (v : ℕ) (o : Option (List ℕ)) (hv : v < 2 ^ 64) (hj : length j ≤ max_key) where
-  high_cons : (b : Bool) → same_user k j ≡ b → highest h k (pair_of (ver_rec j v o) ∷ l) ≡ or_sight (highest h k l) (pick b (pick (visible (sight_of h) v) (sight_by j (some o)) hidden) hidden)
+  high_cons : (b : Bool) → same_user k j ≡ b → highest h k (pair_of (ver_rec j v o) ∷ l) ≡ or_sight (highest h k l) (pick b (pick (visible (sight_of h) v) (sight_by j (Some o)) hidden) hidden)
   unfolding highest
   high_cons b e =
       ap (λ (s : Option Stamp). or_sight (highest h k l) (sight_for h k (payload_of (ver_rec j v o)) s)) (stamp_version j v hv hj)
@@ -159,9 +159,9 @@ module _ (h : Handle) {test p : List ℕ → Bool} (t : ByUser test p) where
         → highest h k (passing (ver_rec k v o ∷ m)) ≡ held k (seen k (ver_rec k v o ∷ m))
     high_own v o m hv hk i =
         ap (highest h k) (pass_version k v o m hv pass) ∙ high_cons h k (passing m) k v o hv hk true (ap is_equal (compare_refl k))
-        ∙ ap (λ (x : Sight). or_sight x (pick (visible (sight_of h) v) (sight_by k (some o)) hidden)) i ∙ go (visible (sight_of h) v) refl
+        ∙ ap (λ (x : Sight). or_sight x (pick (visible (sight_of h) v) (sight_by k (Some o)) hidden)) i ∙ go (visible (sight_of h) v) refl
       where
-        go : (b : Bool) → visible (sight_of h) v ≡ b → or_sight (held k (seen k m)) (pick b (sight_by k (some o)) hidden) ≡ held k (seen k (ver_rec k v o ∷ m))
+        go : (b : Bool) → visible (sight_of h) v ≡ b → or_sight (held k (seen k m)) (pick b (sight_by k (Some o)) hidden) ≡ held k (seen k (ver_rec k v o ∷ m))
         go true q = held_back k (seen k m) k v o ∙ ap (held k) (sym (last_cons (ver_rec k v o) (versions_of (visible (sight_of h)) k m)) ∙ ap last_of (sym (version_yes (visible (sight_of h)) v o m refl q)))
         go false q = held_hidden k (seen k m) ∙ ap (λ (l : List Rec). held k (last_of l)) (sym (version_no (visible (sight_of h)) v o m refl q))
 
@@ -198,8 +198,8 @@ module _ (h : Handle) {test p : List ℕ → Bool} (t : ByUser test p) where
 
   module _ (k : List ℕ) (v : ℕ) (o : Option (List ℕ)) {m : Map} (f : Fine (ver_rec k v o)) (a : All Fine m) where
     -- a version that passes is given where its key shows a value
-    step_own : (r : Option (Key × Bytes)) → p k ≡ true → step_pairs h (passing m) ≡ some (given_of r)
-        → step_pairs h (passing (ver_rec k v o ∷ m)) ≡ some (given_of (or_later k (shown (ver_rec k v o ∷ m) (sight_of h) k) r))
+    step_own : (r : Option (Key × Bytes)) → p k ≡ true → step_pairs h (passing m) ≡ Some (given_of r)
+        → step_pairs h (passing (ver_rec k v o ∷ m)) ≡ Some (given_of (or_later k (shown (ver_rec k v o ∷ m) (sight_of h) k) r))
     unfolding shown
     step_own r e i =
         let l : passing (ver_rec k v o ∷ m) ≡ pair_of (ver_rec k v o) ∷ passing m = pass_version k v o m f.0 e in
@@ -212,32 +212,32 @@ module _ (h : Handle) {test p : List ℕ → Bool} (t : ByUser test p) where
     abbrev whole : Key → Option Bytes
     whole = shown (ver_rec k v o ∷ m) (sight_of h)
 
-    rest_same : whole k ≡ none → first_shown after (keys_in p m) ≡ first_shown whole (keys_in p m)
+    rest_same : whole k ≡ None → first_shown after (keys_in p m) ≡ first_shown whole (keys_in p m)
     rest_same e = first-same after whole p (λ j q. by_cases (key≟ k j) (λ c. rw (← c) (shown-later (sight_of h) k v o m e ∙ sym e)) (λ n. sym (shown-other (sight_of h) k v o m j n))) m
 
     rest_past : p k ≡ false → first_shown after (keys_in p m) ≡ first_shown whole (keys_in p m)
     rest_past e = first-same after whole p (λ j q. sym (shown-other (sight_of h) k v o m j (λ c. nope (cc)))) m
 
-    step-ver : step_pairs h (passing m) ≡ some (given_of (scan_step m (sight_of h) p)) → step_pairs h (passing (ver_rec k v o ∷ m)) ≡ some (given_of (scan_step (ver_rec k v o ∷ m) (sight_of h) p))
+    step-ver : step_pairs h (passing m) ≡ Some (given_of (scan_step m (sight_of h) p)) → step_pairs h (passing (ver_rec k v o ∷ m)) ≡ Some (given_of (scan_step (ver_rec k v o ∷ m) (sight_of h) p))
     unfolding scan_step first_shown keys_in
     step-ver i = go (p k) refl
       where
         rest : (z : Option Bytes) → whole k ≡ z → or_later k z (first_shown after (keys_in p m)) ≡ or_later k z (first_shown whole (keys_in p m))
-        rest none e = rest_same e
-        rest (some x) e = refl
+        rest None e = rest_same e
+        rest (Some x) e = refl
 
-        go : (b : Bool) → p k ≡ b → step_pairs h (passing (ver_rec k v o ∷ m)) ≡ some (given_of (first_shown whole (cond b (k ∷ keys_in p m) (keys_in p m))))
-        go true e = step_own (first_shown after (keys_in p m)) e i ∙ ap (λ (r : Option (Key × Bytes)). some (given_of r)) (rest (whole k) refl)
-        go false e = ap (step_pairs h) (pass_not k v o m f.0 e) ∙ i ∙ ap (λ (r : Option (Key × Bytes)). some (given_of r)) (rest_past e)
+        go : (b : Bool) → p k ≡ b → step_pairs h (passing (ver_rec k v o ∷ m)) ≡ Some (given_of (first_shown whole (cond b (k ∷ keys_in p m) (keys_in p m))))
+        go true e = step_own (first_shown after (keys_in p m)) e i ∙ ap (λ (r : Option (Key × Bytes)). Some (given_of r)) (rest (whole k) refl)
+        go false e = ap (step_pairs h) (pass_not k v o m f.0 e) ∙ i ∙ ap (λ (r : Option (Key × Bytes)). Some (given_of r)) (rest_past e)
 
   step_other : (r : Rec) (m : Map) → ((k : List ℕ) (v : ℕ) → key_of r ≢ version k v) → ((k : Key) → shown m (sight_of h) k ≡ shown (r ∷ m) (sight_of h) k) → keys_in p (r ∷ m) ≡ keys_in p m
-      → step_pairs h (passing m) ≡ some (given_of (scan_step m (sight_of h) p)) → step_pairs h (passing (r ∷ m)) ≡ some (given_of (scan_step (r ∷ m) (sight_of h) p))
+      → step_pairs h (passing m) ≡ Some (given_of (scan_step m (sight_of h) p)) → step_pairs h (passing (r ∷ m)) ≡ Some (given_of (scan_step (r ∷ m) (sight_of h) p))
   unfolding scan_step
   step_other r m n q e i =
-      ap (step_pairs h) (pass_other r m n) ∙ i ∙ ap (λ (z : Option (Key × Bytes)). some (given_of z)) (first-same (shown m (sight_of h)) (shown (r ∷ m) (sight_of h)) p (λ k c. q k) m)
-      ∙ ap (λ (ks : List Key). some (given_of (first_shown (shown (r ∷ m) (sight_of h)) ks))) (sym e)
+      ap (step_pairs h) (pass_other r m n) ∙ i ∙ ap (λ (z : Option (Key × Bytes)). Some (given_of z)) (first-same (shown m (sight_of h)) (shown (r ∷ m) (sight_of h)) p (λ k c. q k) m)
+      ∙ ap (λ (ks : List Key). Some (given_of (first_shown (shown (r ∷ m) (sight_of h)) ks))) (sym e)
 
-  pub step-pairs : {m : Map} → All Fine m → step_pairs h (pairs_of test (pairs_in m)) ≡ some (given_of (scan_step m (sight_of h) p))
+  pub step-pairs : {m : Map} → All Fine m → step_pairs h (pairs_of test (pairs_in m)) ≡ Some (given_of (scan_step m (sight_of h) p))
   unfolding step_pairs pairs_of pairs_in scan_step first_shown keys_in shown versions_of
   step-pairs all_none = refl
   step-pairs (all_more {x = next_rec n} {xs = m} f a) = step_other (next_rec n) m (λ k x e. nope (cc)) (λ k. refl) refl (step-pairs a)

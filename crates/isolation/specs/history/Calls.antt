@@ -1,9 +1,8 @@
 -- The transactions' calls on a map of typed records, as document 01 has them: what a begin, a write, a commit and a rollback make of it, and
 -- what a get, a write's search and a scan step find in it. Assumes nothing.
 use Prim.Native.Nat.{ℕ, suc, Ordering}
-use Rattle.std.specs.Prelude.{Bool, false, not, ◌&&◌, cond, List, [], ◌∷◌, leb, eqb}
+use Rattle.std.specs.Prelude.{Bool, false, not, ◌&&◌, cond, List, [], ◌∷◌, leb, eqb, Option, None, Some}
 use Rattle.std.proofs.Math.Logic.{ite}
-use Rattle.std.proofs.Math.Option.{Option, none, some}
 use Rattle.keycode.specs.key.Keys.{Fields, next_version, txn_active, txn_active_snapshot, txn_write, version}
 use Rattle.isolation.specs.history.History.{Key, Bytes, key≟}
 use Rattle.isolation.specs.history.Records.{Rec, next_rec, active_rec, snap_rec, wrote_rec, ver_rec, plain_rec, Map, look, put, del_all}
@@ -11,31 +10,31 @@ use Rattle.isolation.specs.history.History.{Sight, below, up_to, lowest}
 use Rattle.isolation.specs.history.Store.{Db, is_some}
 
 abbrev pub next_of : Option Rec → ℕ
-next_of none = 1
-next_of (some (next_rec n)) = n
-next_of (some (active_rec v)) = 1
-next_of (some (snap_rec v s)) = 1
-next_of (some (wrote_rec v k)) = 1
-next_of (some (ver_rec k v o)) = 1
-next_of (some (plain_rec k b)) = 1
+next_of None = 1
+next_of (Some (next_rec n)) = n
+next_of (Some (active_rec v)) = 1
+next_of (Some (snap_rec v s)) = 1
+next_of (Some (wrote_rec v k)) = 1
+next_of (Some (ver_rec k v o)) = 1
+next_of (Some (plain_rec k b)) = 1
 
 abbrev pub set_of : Option Rec → List ℕ
-set_of none = []
-set_of (some (next_rec n)) = []
-set_of (some (active_rec v)) = []
-set_of (some (snap_rec v s)) = s
-set_of (some (wrote_rec v k)) = []
-set_of (some (ver_rec k v o)) = []
-set_of (some (plain_rec k b)) = []
+set_of None = []
+set_of (Some (next_rec n)) = []
+set_of (Some (active_rec v)) = []
+set_of (Some (snap_rec v s)) = s
+set_of (Some (wrote_rec v k)) = []
+set_of (Some (ver_rec k v o)) = []
+set_of (Some (plain_rec k b)) = []
 
 abbrev pub item_of : Option Rec → Option (Option Bytes)
-item_of none = none
-item_of (some (next_rec n)) = none
-item_of (some (active_rec v)) = none
-item_of (some (snap_rec v s)) = none
-item_of (some (wrote_rec v k)) = none
-item_of (some (ver_rec k v o)) = some o
-item_of (some (plain_rec k b)) = none
+item_of None = None
+item_of (Some (next_rec n)) = None
+item_of (Some (active_rec v)) = None
+item_of (Some (snap_rec v s)) = None
+item_of (Some (wrote_rec v k)) = None
+item_of (Some (ver_rec k v o)) = Some o
+item_of (Some (plain_rec k b)) = None
 
 -- what the transactions read of a map
 abbrev pub view : Map → Db
@@ -68,17 +67,17 @@ versions_of p k (ver_rec j v o ∷ m) = ite (key≟ j k) (cond (p v) (ver_rec j 
 versions_of p k (plain_rec j b ∷ m) = versions_of p k m
 
 abbrev pub back : Option Rec → Rec → Option Rec
-back none r = some r
-back (some s) r = some s
+back None r = Some r
+back (Some s) r = Some s
 
 unfoldable pub last_of : List Rec → Option Rec
-last_of [] = none
+last_of [] = None
 last_of (r ∷ m) = back (last_of m) r
 
 -- get: the value at the highest visible version
-abbrev pub flat {ℓ} : {A : Type ℓ} → Option (Option A) → Option A
-flat none = none
-flat (some o) = o
+abbrev pub flat : {A : Type 0} → Option (Option A) → Option A
+flat None = None
+flat (Some o) = o
 
 unfoldable pub visible : Sight → ℕ → Bool
 visible h x = cond h.ro (below h.ver h.set x) (up_to h.ver h.set x)
@@ -88,13 +87,13 @@ shown m h k = flat (item_of (last_of (versions_of (visible h) k m)))
 
 -- a write meets Conflict
 abbrev pub hides : Sight → Option Rec → Bool
-hides h none = false
-hides h (some (next_rec n)) = false
-hides h (some (active_rec v)) = false
-hides h (some (snap_rec v s)) = false
-hides h (some (wrote_rec v k)) = false
-hides h (some (ver_rec k v o)) = not (up_to h.ver h.set v)
-hides h (some (plain_rec k b)) = false
+hides h None = false
+hides h (Some (next_rec n)) = false
+hides h (Some (active_rec v)) = false
+hides h (Some (snap_rec v s)) = false
+hides h (Some (wrote_rec v k)) = false
+hides h (Some (ver_rec k v o)) = not (up_to h.ver h.set v)
+hides h (Some (plain_rec k b)) = false
 
 abbrev pub last_version : ℕ
 last_version = 18446744073709551615
@@ -156,11 +155,11 @@ keys_in p (ver_rec k v o ∷ m) = cond (p k) (k ∷ keys_in p m) (keys_in p m)
 keys_in p (plain_rec k b ∷ m) = keys_in p m
 
 abbrev pub or_later : Key → Option Bytes → Option (Key × Bytes) → Option (Key × Bytes)
-or_later k none r = r
-or_later k (some v) r = some (k, v)
+or_later k None r = r
+or_later k (Some v) r = Some (k, v)
 
 unfoldable pub first_shown : (Key → Option Bytes) → List Key → Option (Key × Bytes)
-first_shown f [] = none
+first_shown f [] = None
 first_shown f (k ∷ ks) = or_later k (f k) (first_shown f ks)
 
 -- a scan step: the first key that passes (in bounds, after the last one given) and shows a value

@@ -1,8 +1,7 @@
 -- What the transactions mean, from the calls made and the numbers answered alone: no word here of records, keys of the store or payloads.
 -- A history is the list of what happened, the latest first. Document 01's demand of snapshot isolation. Assumes nothing.
-use Rattle.std.specs.Prelude.{ℕ, suc, ◌≤◌, ◌≡◌, refl, Bool, true, false, not, ◌&&◌, ◌≢◌, ◌⊎◌, List, [], ◌∷◌, leb, ltb}
+use Rattle.std.specs.Prelude.{ℕ, suc, ◌≤◌, ◌≡◌, refl, Bool, true, false, not, ◌&&◌, ◌≢◌, ◌⊎◌, List, [], ◌∷◌, leb, ltb, Option, None, Some}
 use Rattle.std.proofs.Math.Logic.{ite}
-use Rattle.std.proofs.Math.Option.{Option, none, some}
 use Rattle.std.proofs.Math.Decide.{ℕ_discrete}
 use Rattle.std.proofs.Common.{arith}
 
@@ -58,20 +57,20 @@ status (noted ∷ H) v = status H v
 
 -- the last accepted write of key k by transaction v
 unfoldable pub last_write : History → ℕ → Key → Option (Option Bytes)
-last_write [] v k = none
+last_write [] v k = None
 last_write (began h ∷ H) v k = last_write H v k
-last_write (wrote t j o ∷ H) v k = ite (ℕ_discrete t v) (ite (key≟ j k) (some o) (last_write H v k)) (last_write H v k)
+last_write (wrote t j o ∷ H) v k = ite (ℕ_discrete t v) (ite (key≟ j k) (Some o) (last_write H v k)) (last_write H v k)
 last_write (committed t ∷ H) v k = last_write H v k
 last_write (undone t ∷ H) v k = last_write H v k
 last_write (noted ∷ H) v k = last_write H v k
 
 abbrev pub over : Option (Option Bytes) → Option Bytes → Option Bytes
-over none b = b
-over (some o) b = o
+over None b = b
+over (Some o) b = o
 
 -- what the committed transactions leave at key k, laid down whole in commit order
 unfoldable pub laid : History → Key → Option Bytes
-laid [] k = none
+laid [] k = None
 laid (began h ∷ H) k = laid H k
 laid (wrote t j o ∷ H) k = laid H k
 laid (committed t ∷ H) k = over (last_write H t k) (laid H k)
@@ -95,7 +94,7 @@ Late H t x = (status H x ≡ opened) ⊎ ((status H x ≡ done) × (status (past
 pub record Clash (H : History) (t : ℕ) (k : Key) : Type 0 where
   pub other : ℕ
   pub differs : other ≢ t
-  pub writes : last_write H other k ≢ none
+  pub writes : last_write H other k ≢ None
   pub late : Late H t other
 
 -- membership in a handle's set
@@ -118,9 +117,9 @@ lowest (x ∷ xs) t = x
 abbrev pub Low : Sight → Type 0
 Low h = (x : ℕ) → is_in x h.set ≡ true → lowest h.set h.ver ≤ x
 
-abbrev pub keep {ℓ} : {A : Type ℓ} → Bool → Option A → Option A
+abbrev pub keep : {A : Type 0} → Bool → Option A → Option A
 keep true x = x
-keep false x = none
+keep false x = None
 
 -- a reader's test: below its version, and not open when it began; a read-write handle sees its own version too
 abbrev pub below : ℕ → List ℕ → ℕ → Bool

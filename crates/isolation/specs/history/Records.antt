@@ -1,9 +1,8 @@
 -- The records of the store, typed, each with its key and its payload in one, and the map that holds them in the order of the keys.
 -- Assumes nothing.
 use Prim.Native.Nat.{ℕ, ◌<◌, Ordering}
-use Rattle.std.specs.Prelude.{◌≡◌, Bool, true, false, ◌≢◌, List, [], ◌∷◌}
+use Rattle.std.specs.Prelude.{◌≡◌, Bool, true, false, ◌≢◌, List, [], ◌∷◌, Option, None, Some}
 use Rattle.std.proofs.Math.Logic.{ite}
-use Rattle.std.proofs.Math.Option.{Option, none, some}
 use Rattle.std.proofs.Math.Decide.{ℕ_discrete}
 use Rattle.keycode.specs.key.Keys.{Fields, Fields-discrete, next_version, txn_active, txn_active_snapshot, txn_write, version, unversioned}
 use Rattle.isolation.specs.history.History.{Key, Bytes, key≟}
@@ -32,8 +31,8 @@ abbrev pub Map : Type 0
 Map = List Rec
 
 unfoldable pub look : Map → Fields → Option Rec
-look [] K = none
-look (r ∷ m) K = ite (fields≟ (key_of r) K) (some r) (look m K)
+look [] K = None
+look (r ∷ m) K = ite (fields≟ (key_of r) K) (Some r) (look m K)
 
 -- the map without the records whose keys pass the test
 unfoldable pub without : (Fields → Bool) → Map → Map

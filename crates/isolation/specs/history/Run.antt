@@ -1,7 +1,6 @@
 -- The calls as they are made and answered, how the history counts each, and every way to use a store of typed records. Assumes nothing.
 use Prim.Native.Nat.{ℕ, zero, suc, ◌<◌, Ordering}
-use Rattle.std.specs.Prelude.{◌≡◌, Bool, true, false, not, ◌||◌, cond, List, [], ◌∷◌, ltb, length}
-use Rattle.std.proofs.Math.Option.{Option, none, some}
+use Rattle.std.specs.Prelude.{◌≡◌, Bool, true, false, not, ◌||◌, cond, List, [], ◌∷◌, ltb, length, Option, None, Some}
 use Rattle.keycode.specs.key.Keys.{Fields, next_version, txn_active, txn_active_snapshot}
 use Rattle.isolation.specs.history.History.{Key, Bytes}
 use Rattle.isolation.specs.history.Records.{Map, look, put, plain_rec}
@@ -62,8 +61,8 @@ pick true a b = a
 pick false a b = b
 
 abbrev pub too_long : Option Bytes → Bool
-too_long none = false
-too_long (some v) = ltb 4096 (length v)
+too_long None = false
+too_long (Some v) = ltb 4096 (length v)
 
 -- the number of a write, up to room for it: 2, 3, 4, 5, 6, in this order
 unfoldable pub write_number : Map → Sight → Key → Option Bytes → ℕ

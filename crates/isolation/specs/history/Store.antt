@@ -1,7 +1,6 @@
 -- What the transactions read of the store, record by record, and what each accepted call does to it. Document 01, 'Transactions'. Assumes
 -- nothing.
-use Rattle.std.specs.Prelude.{ℕ, suc, ◌≡◌, Bool, true, false, not, ◌≢◌, List, [], ◌∷◌}
-use Rattle.std.proofs.Math.Option.{Option, none, some}
+use Rattle.std.specs.Prelude.{ℕ, suc, ◌≡◌, Bool, true, false, not, ◌≢◌, List, [], ◌∷◌, Option, None, Some}
 use Rattle.isolation.specs.history.History.{Key, Bytes, Sight, is_in, keep, Low}
 
 -- the next version; which versions are open; the set stored at a version's begin; which keys a version is recorded to have written; and what
@@ -18,9 +17,9 @@ abbrev pub kept : List ℕ → List ℕ → List ℕ
 kept [] s = s
 kept (x ∷ xs) s = x ∷ xs
 
-abbrev pub is_some {ℓ} : {A : Type ℓ} → Option A → Bool
-is_some none = false
-is_some (some a) = true
+abbrev pub is_some : {A : Type 0} → Option A → Bool
+is_some None = false
+is_some (Some a) = true
 
 -- nothing is stored
 pub record Empty (d : Db) : Type 0 where
@@ -28,7 +27,7 @@ pub record Empty (d : Db) : Type 0 where
   pub act : (x : ℕ) → d.act x ≡ false
   pub snap : (x : ℕ) → d.snap x ≡ []
   pub txw : (x : ℕ) (k : Key) → d.txw x k ≡ false
-  pub vers : (k : Key) (x : ℕ) → d.vers k x ≡ none
+  pub vers : (k : Key) (x : ℕ) → d.vers k x ≡ None
 
 -- begin answered 0 with the handle h
 pub record Begins (d : Db) (h : Sight) (d' : Db) : Type 0 where
@@ -50,7 +49,7 @@ pub record Writes (d : Db) (t : ℕ) (k : Key) (o : Option Bytes) (d' : Db) : Ty
   pub snap : (x : ℕ) → d'.snap x ≡ d.snap x
   pub txw_own : d'.txw t k ≡ true
   pub txw-other : (x : ℕ) (j : Key) → ¬ ((t ≡ x) × (k ≡ j)) → d'.txw x j ≡ d.txw x j
-  pub vers_own : d'.vers k t ≡ some o
+  pub vers_own : d'.vers k t ≡ Some o
   pub vers-other : (j : Key) (x : ℕ) → ¬ ((t ≡ x) × (k ≡ j)) → d'.vers j x ≡ d.vers j x
 
 -- what a commit and a rollback answered 0 have in common

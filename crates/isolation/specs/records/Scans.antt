@@ -1,10 +1,9 @@
 -- A scan's step over records: tests of keys that ask for the user key alone, and the first key that passes one and shows a value, in the
 -- order of the bytes. Document 01, 'Transactions'. Assumes nothing.
-use Rattle.std.specs.Prelude.{ℕ, ◌^◌, ◌<◌, ◌≡◌, Bool, true, false, ◌≢◌, List}
-use Rattle.std.proofs.Math.Option.{Option, none, some}
+use Rattle.std.specs.declared.cmp.Ordering.TheVariants.{Less}
+use Rattle.std.specs.Prelude.{ℕ, ◌^◌, ◌<◌, ◌≡◌, Bool, true, false, ◌≢◌, List, Option, None, Some}
 use Rattle.keycode.specs.Tests.{pick}
 use Rattle.keycode.specs.Order.{compare_bytes}
-use Rattle.keycode.specs.declared.order.Order.TheVariants.{Less}
 use Rattle.keycode.specs.key.Keys.{Fields, version, encode}
 use Rattle.bitcask.specs.read.Ranks.{admits_low, last_bound}
 use Rattle.bitcask.specs.engine.Prefixes.{begins}
@@ -25,10 +24,10 @@ prefix_past prefix given last k = pick (begins prefix k) (admits_low (last_bound
 -- ---- what is given
 
 abbrev pub given_of : Option (Key × Bytes) → Option Given
-given_of none = none
-given_of (some (k, x)) = some (record { user = k; value = x })
+given_of None = None
+given_of (Some (k, x)) = Some (record { user = k; value = x })
 
 -- f says what each key shows; r is the first key that passes and its value, or none where none shows any
 pub data First (f : Key → Option Bytes) (p : Key → Bool) (r : Option (Key × Bytes)) : Type 0 where
-  none-shows : r ≡ none → ((k : Key) → p k ≡ true → f k ≡ none) → First f p r
-  first-shows : (k : Key) (x : Bytes) → r ≡ some (k, x) → p k ≡ true → f k ≡ some x → ((j : Key) → p j ≡ true → compare_bytes j k ≡ Less → f j ≡ none) → First f p r
+  none-shows : r ≡ None → ((k : Key) → p k ≡ true → f k ≡ None) → First f p r
+  first-shows : (k : Key) (x : Bytes) → r ≡ Some (k, x) → p k ≡ true → f k ≡ Some x → ((j : Key) → p j ≡ true → compare_bytes j k ≡ Less → f j ≡ None) → First f p r

@@ -1,10 +1,10 @@
 -- The store's records as the map's pairs of bytes, and what a handle sees by. Document 01, 'Key bytes' and 'Transactions'. Assumes nothing.
 use Prim.Native.Nat.{ℕ, ◌^◌, ◌<◌, ◌≤◌, Ordering}
+use Rattle.std.specs.declared.cmp.Ordering.{Ordering as Way}
+use Rattle.std.specs.declared.cmp.Ordering.TheVariants.{Less, Equal, Greater}
 use Rattle.std.specs.Prelude.{◌≡◌, true, List, [], ◌∷◌, length}
 use Rattle.keycode.specs.Limits.{max_key, max_open}
 use Rattle.keycode.specs.Order.{compare_bytes}
-use Rattle.keycode.specs.declared.order.Order.{Order}
-use Rattle.keycode.specs.declared.order.Order.TheVariants.{Less, Equal, Greater}
 use Rattle.keycode.specs.key.Keys.{Fields, encode}
 use Rattle.bitcask.specs.recovery.Map.{Pair}
 use Rattle.mvcc.specs.declared.handle.Handle.{Handle}
@@ -32,7 +32,7 @@ pairs_in (r ∷ m) = pair_of r ∷ pairs_in m
 
 -- ---- the order of keys is that of their bytes
 
-abbrev pub ordering_of : Order → Ordering
+abbrev pub ordering_of : Way → Ordering
 ordering_of Less = Ordering.lt
 ordering_of Equal = Ordering.eq
 ordering_of Greater = Ordering.gt

@@ -5,13 +5,12 @@ use mathlib.Core.List.{List, ◌∷◌, ◌++◌}
 use native.Mathlib.Omega.{arith}
 use lib.ListN.{length, take, drop}
 use lib.Seq.{take_at}
+use Rattle.std.specs.Prelude.{Result, ℕ, Ok, Err}
 use Rattle.keycode.specs.Limits.{max_key}
 use Rattle.keycode.specs.Number.{be}
 use Rattle.keycode.specs.key.Keys.{encode, next_version, txn_write, version, unversioned}
 use Rattle.keycode.specs.Prefix.{searched}
 use Rattle.keycode.specs.encode.Promises.{Encodes}
-use Rattle.keycode.specs.declared.refusal.Length.{Length}
-use Rattle.keycode.specs.declared.refusal.Length.TheVariants.{Done, Refused}
 use Rattle.keycode.specs.declared.refusal.Refusal.{Refusal}
 use Rattle.keycode.proofs.NumberLaws.{length-be}
 use Rattle.keycode.proofs.StringLaws.{body_bound}
@@ -20,18 +19,18 @@ use Rattle.keycode.specs.declared.code.Code.{Code}
 use Rattle.keycode.specs.code.Codes.{key_bytes, Codes, code_of}
 
 -- an encoder with room enough and a user key within the limit makes the code of its key
-pub code_made : (s e d b : List ℕ) {got : Length} {r : Code} → length s ≤ max_key → length e ≤ key_bytes → length d ≡ key_bytes → length b ≡ length d
+pub code_made : (s e d b : List ℕ) {got : Result ℕ Refusal} {r : Code} → length s ≤ max_key → length e ≤ key_bytes → length d ≡ key_bytes → length b ≡ length d
     → Encodes s e d got b → r ≡ code_of got b → Codes r e
 code_made s e d b {got} hs he full kept w q =
-    let done : got ≡ Done (length e) = w.answer ∙ sym (measure_done s (length e) (length d) (length e) refl hs (omega arith)) in
+    let done : got ≡ Ok (length e) = w.answer ∙ sym (measure_done s (length e) (length d) (length e) refl hs (omega arith)) in
     let laid : b ≡ e ++ drop (length e) d = rw done at w.buffer in
     rw (q, done)
     (record { whole = kept ∙ full; within = he; says = ap (take (length e)) laid ∙ take_at e (drop (length e) d) (length e) refl })
 
-pub coded_done : {a : Length} (n : ℕ) (b : List ℕ) → a ≡ Done n → record { len = n; bytes = b } ≡ code_of a b
+pub coded_done : {a : Result ℕ Refusal} (n : ℕ) (b : List ℕ) → a ≡ Ok n → record { len = n; bytes = b } ≡ code_of a b
 coded_done n b e = rw e
 
-pub coded_none : {a : Length} (r : Refusal) (b : List ℕ) → a ≡ Refused r → record { len = 0; bytes = b } ≡ code_of a b
+pub coded_none : {a : Result ℕ Refusal} (r : Refusal) (b : List ℕ) → a ≡ Err r → record { len = 0; bytes = b } ≡ code_of a b
 coded_none r b e = rw e
 
 pub next_fits : length (encode next_version) ≤ key_bytes

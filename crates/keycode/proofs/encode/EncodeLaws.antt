@@ -7,8 +7,7 @@ use native.Mathlib.Omega.{arith}
 use lib.ListN.{length, set, length-append}
 use lib.Dec.{leb}
 use borrow.Author.Tests.{le-leb, lt-leb, leb-true}
-use Rattle.keycode.specs.declared.refusal.Length.{Length}
-use Rattle.keycode.specs.declared.refusal.Length.TheVariants.{Done, Refused}
+use Rattle.std.specs.Prelude.{Result, ℕ, Ok, Err}
 use Rattle.keycode.specs.declared.refusal.Refusal.{Refusal}
 use Rattle.keycode.specs.declared.refusal.Refusal.TheVariants.{KeyTooLong, BadRequest}
 use Rattle.keycode.specs.Tests.{pick}
@@ -28,24 +27,24 @@ use Rattle.keycode.proofs.StringLaws.{escape-length}
 -- ---- the tests
 
 module _ (s : List ℕ) (n room : ℕ) where
-  pub measure_long : max_key < length s → Refused KeyTooLong ≡ encode_answer s n room
+  pub measure_long : max_key < length s → Err KeyTooLong ≡ encode_answer s n room
   unfolding encode_answer
   measure_long h = rw (lt-leb (length s) max_key h)
 
-  pub measure_short : length s ≤ max_key → room < n → Refused BadRequest ≡ encode_answer s n room
+  pub measure_short : length s ≤ max_key → room < n → Err BadRequest ≡ encode_answer s n room
   unfolding encode_answer fitted
   measure_short h g = rw (le-leb (length s) max_key h, lt-leb n room g)
 
-  pub measure_done : (m : ℕ) → m ≡ n → length s ≤ max_key → n ≤ room → Done m ≡ encode_answer s n room
+  pub measure_done : (m : ℕ) → m ≡ n → length s ≤ max_key → n ≤ room → Ok m ≡ encode_answer s n room
   unfolding encode_answer fitted
   measure_done m e h g = rw (e, le-leb (length s) max_key h, le-leb n room g)
 
-  pub measure_says : (m : ℕ) → encode_answer s n room ≡ Done m → (length s ≤ max_key) × (n ≤ room) × (m ≡ n)
+  pub measure_says : (m : ℕ) → encode_answer s n room ≡ Ok m → (length s ≤ max_key) × (n ≤ room) × (m ≡ n)
   unfolding encode_answer fitted
   measure_says m = go (leb (length s) max_key) refl (leb n room) refl
     where
       go : (a : Bool) → leb (length s) max_key ≡ a → (b : Bool) → leb n room ≡ b
-          → pick a (pick b (Done n) (Refused BadRequest)) (Refused KeyTooLong) ≡ Done m → (length s ≤ max_key) × (n ≤ room) × (m ≡ n)
+          → pick a (pick b (Ok n) (Err BadRequest)) (Err KeyTooLong) ≡ Ok m → (length s ≤ max_key) × (n ≤ room) × (m ≡ n)
       go true p true q r = (leb-true (length s) max_key p, leb-true n room q, cc)
       go true p false q r = nope (cc)
       go false p b q r = nope (cc)
@@ -53,15 +52,15 @@ module _ (s : List ℕ) (n room : ℕ) where
 -- ---- an encoding
 
 -- the encoding e, of m bytes, by what `measured` answered
-module _ (s e d : List ℕ) (m : ℕ) (size : length e ≡ m) (got : Length) (says : got ≡ encode_answer s m (length d)) where
-  pub encode_refused : (r : Refusal) → got ≡ Refused r → Encodes s e d (Refused r) d
+module _ (s e d : List ℕ) (m : ℕ) (size : length e ≡ m) (got : Result ℕ Refusal) (says : got ≡ encode_answer s m (length d)) where
+  pub encode_refused : (r : Refusal) → got ≡ Err r → Encodes s e d (Err r) d
   encode_refused r g = rw size (writes_refused _ e d r (sym g ∙ says))
 
-  module _ (n : ℕ) (g : got ≡ Done n) where
+  module _ (n : ℕ) (g : got ≡ Ok n) where
     pub encode-room : m ≤ length d
     encode-room = (measure_says s m (length d) n (sym says ∙ g)).1
 
-    pub encode_done : (out : List ℕ) → out ≡ put d 0 e → Encodes s e d (Done n) out
+    pub encode_done : (out : List ℕ) → out ≡ put d 0 e → Encodes s e d (Ok n) out
     encode_done out q = rw size (writes_done _ e d out n (sym g ∙ says) q)
 
 -- ---- the tag, and then one run of bytes or two

@@ -9,13 +9,11 @@ use lib.ListN.{length, take, drop, get_or, length-append, length-drop, take-appe
 use lib.Seq.{take_at, drop_at, take_all, length-take-le}
 use lib.Dec.{leb}
 use borrow.Author.Tests.{le-leb, leb-true}
+use Rattle.std.specs.Prelude.{Result, Ok, Err, ℕ}
+use Rattle.keycode.specs.declared.strings.Fault.{Fault}
 use Rattle.keycode.specs.declared.key.Key.{Key}
 use Rattle.keycode.specs.declared.key.Key.TheVariants.{NextVersion, TxnActive, TxnActiveSnapshot}
-use Rattle.keycode.specs.declared.key.Reading.{Reading}
-use Rattle.keycode.specs.declared.key.Reading.TheVariants.{Read, Faulty}
 use Rattle.keycode.specs.declared.strings.Reason.TheVariants.{TooFew, LeftOver}
-use Rattle.keycode.specs.declared.strings.Scanned.{Scanned}
-use Rattle.keycode.specs.declared.strings.Scanned.TheVariants.{Ended, Broken}
 use Rattle.keycode.specs.Tests.{pick}
 use Rattle.keycode.specs.Number.{be, num}
 use Rattle.keycode.specs.Strings.{escape_body, escape, unescaped, scanned, fault}
@@ -44,43 +42,43 @@ eight_alone : (v : ℕ) → v < 256 ^ 8 → num (take 8 (be 8 v)) ≡ v
 eight_alone v h = rw (take_all 8 (be 8 v) (omega (arith, length-be 8 v))) (num-be 8 v h)
 
 -- a string behind other bytes, with more behind it
-string_ended : (limit : ℕ) (p s t : List ℕ) → length s ≤ limit → string_at limit (length p) (p ++ (escape s ++ t)) ≡ Ended (length p + length (escape_body s))
+string_ended : (limit : ℕ) (p s t : List ℕ) → length s ≤ limit → string_at limit (length p) (p ++ (escape s ++ t)) ≡ Ok (length p + length (escape_body s))
 unfolding string_at escape
 string_ended limit p s t h =
     let l : length p ≤ length (p ++ (escape_body s ++ (0 ∷ 0 ∷ []) ++ t)) = simp length-append (omega arith) in
     rw (le-leb (length p) (length (p ++ (escape_body s ++ (0 ∷ 0 ∷ []) ++ t))) l, drop_at p (escape_body s ++ (0 ∷ 0 ∷ []) ++ t) (length p) refl, append_assoc)
     (scanned_body s t limit (length p) h)
 
-exactly-same : (n l : ℕ) (k j : Key) → n ≡ l → k ≡ j → exactly n l k ≡ Read j
-exactly-same n l k j e f = sym (exactly_read n l k (omega arith) (omega arith)) ∙ ap Read f
+exactly-same : (n l : ℕ) (k j : Key) → n ≡ l → k ≡ j → exactly n l k ≡ Ok j
+exactly-same n l k j e f = sym (exactly_read n l k (omega arith) (omega arith)) ∙ ap Ok f
 
-write_decoded : (limit v : ℕ) (s : List ℕ) → v < 256 ^ 8 → length s ≤ limit → key_of limit 3 (encode (txn_write v s)) ≡ Read (placed (txn_write v s))
+write_decoded : (limit v : ℕ) (s : List ℕ) → v < 256 ^ 8 → length s ≤ limit → key_of limit 3 (encode (txn_write v s)) ≡ Ok (placed (txn_write v s))
 unfolding key_of on_ended
 write_decoded limit v s h g =
     let n = length (escape_body s) in
     let l : length (3 ∷ be 8 v) ≡ 9 = ap suc (length-be 8 v) in
-    let e : string_at limit 9 (3 ∷ be 8 v ++ escape s) ≡ Ended (9 + n) = rw (l, append-nil) at (string_ended limit (3 ∷ be 8 v) s [] g) in
+    let e : string_at limit 9 (3 ∷ be 8 v ++ escape s) ≡ Ok (9 + n) = rw (l, append-nil) at (string_ended limit (3 ∷ be 8 v) s [] g) in
     let f : 9 + n - 9 ≡ n = omega arith in
     rw e (exactly-same _ _ _ _ (simp length-append (omega (arith, length-be 8 v, escape-length s))) (rw (eight v (escape s) h, f)))
 
-version_decoded : (limit v : ℕ) (s : List ℕ) → v < 256 ^ 8 → length s ≤ limit → key_of limit 4 (encode (version s v)) ≡ Read (placed (version s v))
+version_decoded : (limit v : ℕ) (s : List ℕ) → v < 256 ^ 8 → length s ≤ limit → key_of limit 4 (encode (version s v)) ≡ Ok (placed (version s v))
 unfolding key_of on_ended
 version_decoded limit v s h g =
     let n = length (escape_body s) in
-    let e : string_at limit 1 (4 ∷ escape s ++ be 8 v) ≡ Ended (1 + n) = string_ended limit (4 ∷ []) s (be 8 v) g in
+    let e : string_at limit 1 (4 ∷ escape s ++ be 8 v) ≡ Ok (1 + n) = string_ended limit (4 ∷ []) s (be 8 v) g in
     let f : 1 + n - 1 ≡ n = omega arith in
     let d : drop (1 + n + 2) (4 ∷ escape s ++ be 8 v) ≡ be 8 v = drop_at (4 ∷ escape s) (be 8 v) (1 + n + 2) (omega (arith, escape-length s)) in
     rw e (exactly-same _ _ _ _ (simp length-append (omega (arith, length-be 8 v, escape-length s))) (rw (d, eight_alone v h, f)))
 
-unversioned_decoded : (limit : ℕ) (s : List ℕ) → length s ≤ limit → key_of limit 5 (encode (unversioned s)) ≡ Read (placed (unversioned s))
+unversioned_decoded : (limit : ℕ) (s : List ℕ) → length s ≤ limit → key_of limit 5 (encode (unversioned s)) ≡ Ok (placed (unversioned s))
 unfolding key_of on_ended
 unversioned_decoded limit s g =
     let n = length (escape_body s) in
-    let e : string_at limit 1 (5 ∷ escape s) ≡ Ended (1 + n) = rw append-nil at (string_ended limit (5 ∷ []) s [] g) in
+    let e : string_at limit 1 (5 ∷ escape s) ≡ Ok (1 + n) = rw append-nil at (string_ended limit (5 ∷ []) s [] g) in
     let f : 1 + n - 1 ≡ n = omega arith in
     rw e (exactly-same _ _ _ _ (omega (arith, escape-length s)) (rw f))
 
-pub decode_encode : (limit : ℕ) (k : Fields) → Sound k → length (user_key k) ≤ limit → decode_why limit (encode k) ≡ Read (placed k)
+pub decode_encode : (limit : ℕ) (k : Fields) → Sound k → length (user_key k) ≤ limit → decode_why limit (encode k) ≡ Ok (placed k)
 unfolding decode_why
 decode_encode limit next_version h g = unfold key_of exactly in refl
 decode_encode limit (txn_active v) h g = unfold key_of in exactly-same _ _ _ _ (omega (arith, length-be 8 v)) (ap TxnActive (eight_alone v h))
@@ -108,19 +106,19 @@ fields_placed (unversioned s) = ap unversioned (rw append-nil at (part_of (5 ∷
 
 -- ---- what was decoded is what is encoded again
 
-exactly-says : (n l : ℕ) (k j : Key) → exactly n l k ≡ Read j → (n ≡ l) × (k ≡ j)
+exactly-says : (n l : ℕ) (k j : Key) → exactly n l k ≡ Ok j → (n ≡ l) × (k ≡ j)
 unfolding exactly
 exactly-says n l k j = go (leb n l) refl (leb l n) refl
   where
-    go : (a : Bool) → leb n l ≡ a → (b : Bool) → leb l n ≡ b → pick a (pick b (Read k) (Faulty (fault LeftOver n))) (Faulty (fault TooFew l)) ≡ Read j → (n ≡ l) × (k ≡ j)
+    go : (a : Bool) → leb n l ≡ a → (b : Bool) → leb l n ≡ b → pick a (pick b (Ok k) (Err (fault LeftOver n))) (Err (fault TooFew l)) ≡ Ok j → (n ≡ l) × (k ≡ j)
     go true p true q e = (omega (arith, leb-true n l p, leb-true l n q), cc)
     go true p false q e = nope (cc)
     go false p b q e = nope (cc)
 
-ended-says : (got : Scanned) (f : ℕ → Reading) (k : Key) → on_ended got f ≡ Read k → (i : ℕ) × (got ≡ Ended i) × (f i ≡ Read k)
+ended-says : (got : Result ℕ Fault) (f : ℕ → Result Key Fault) (k : Key) → on_ended got f ≡ Ok k → (i : ℕ) × (got ≡ Ok i) × (f i ≡ Ok k)
 unfolding on_ended
-ended-says (Ended i) f k e = (i, refl, e)
-ended-says (Broken w) f k e = nope (cc)
+ended-says (Ok i) f k e = (i, refl, e)
+ended-says (Err w) f k e = nope (cc)
 
 -- a string that ends at index i: its bytes, and those behind its end
 pub record Stringed (limit at i : ℕ) (b : List ℕ) : Type 0 where
@@ -131,11 +129,11 @@ pub record Stringed (limit at i : ℕ) (b : List ℕ) : Type 0 where
   pub few : length string ≤ limit
   pub whole : length b ≡ i + 2 + length rest
 
-stringed : (limit at i : ℕ) (b : List ℕ) → string_at limit at b ≡ Ended i → Stringed limit at i b
+stringed : (limit at i : ℕ) (b : List ℕ) → string_at limit at b ≡ Ok i → Stringed limit at i b
 unfolding string_at escape
 stringed limit at i b = go (leb at (length b)) refl
   where
-    go : (t : Bool) → leb at (length b) ≡ t → pick t (scanned limit at (drop at b)) (Broken (fault TooFew (length b))) ≡ Ended i → Stringed limit at i b
+    go : (t : Bool) → leb at (length b) ≡ t → pick t (scanned limit at (drop at b)) (Err (fault TooFew (length b))) ≡ Ok i → Stringed limit at i b
     go true h p =
         let q = scan_found limit at i (drop at b) p in
         let l : length (drop at b) ≡ length (escape_body q.string) + suc (suc (length q.rest)) = ap length q.here ∙ length-append (escape_body q.string) (0 ∷ 0 ∷ q.rest) in
@@ -173,7 +171,7 @@ pub record Encoded (limit : ℕ) (b : List ℕ) (k : Fields) : Type 0 where
   pub bytes : encode k ≡ b
   pub few : length (user_key k) ≤ limit
 
-write_back : (limit : ℕ) (r : List ℕ) (k : Key) → Bytes r → key_of limit 3 (3 ∷ r) ≡ Read k → Encoded limit (3 ∷ r) (fields_of (3 ∷ r) k)
+write_back : (limit : ℕ) (r : List ℕ) (k : Key) → Bytes r → key_of limit 3 (3 ∷ r) ≡ Ok k → Encoded limit (3 ∷ r) (fields_of (3 ∷ r) k)
 unfolding key_of
 write_back limit r k y e =
     let u = ended-says (string_at limit 9 (3 ∷ r)) _ k e in
@@ -187,7 +185,7 @@ write_back limit r k y e =
         let d : escape q.string ≡ drop 8 r = sym (q.here ∙ rw (z, append-nil)) in
         rw (named q, d, eight_back r y (omega (arith, q.ends))) (ap (λ (t : List ℕ). 3 ∷ t) (take-append-drop 8 r))
 
-version-back : (limit : ℕ) (r : List ℕ) (k : Key) → Bytes r → key_of limit 4 (4 ∷ r) ≡ Read k → Encoded limit (4 ∷ r) (fields_of (4 ∷ r) k)
+version-back : (limit : ℕ) (r : List ℕ) (k : Key) → Bytes r → key_of limit 4 (4 ∷ r) ≡ Ok k → Encoded limit (4 ∷ r) (fields_of (4 ∷ r) k)
 unfolding key_of
 version-back limit r k y e =
     let u = ended-says (string_at limit 1 (4 ∷ r)) _ k e in
@@ -205,7 +203,7 @@ version-back limit r k y e =
         four zero = omega arith
         four (suc j) = y j
 
-unversioned-back : (limit : ℕ) (r : List ℕ) (k : Key) → key_of limit 5 (5 ∷ r) ≡ Read k → Encoded limit (5 ∷ r) (fields_of (5 ∷ r) k)
+unversioned-back : (limit : ℕ) (r : List ℕ) (k : Key) → key_of limit 5 (5 ∷ r) ≡ Ok k → Encoded limit (5 ∷ r) (fields_of (5 ∷ r) k)
 unfolding key_of
 unversioned-back limit r k e =
     let u = ended-says (string_at limit 1 (5 ∷ r)) _ k e in
@@ -218,7 +216,7 @@ unversioned-back limit r k e =
         let z : q.rest ≡ [] = none q.rest (omega (arith, q.whole)) in
         rw (named q) (ap (λ (t : List ℕ). 5 ∷ t) (sym (q.here ∙ rw (z, append-nil))))
 
-pub encode_decode : (limit : ℕ) (b : List ℕ) (k : Key) → Bytes b → decode_why limit b ≡ Read k → Encoded limit b (fields_of b k)
+pub encode_decode : (limit : ℕ) (b : List ℕ) (k : Key) → Bytes b → decode_why limit b ≡ Ok k → Encoded limit b (fields_of b k)
 unfolding decode_why key_of
 encode_decode limit [] k y e = nope (cc)
 encode_decode limit (zero ∷ r) k y e =

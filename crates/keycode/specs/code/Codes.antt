@@ -1,8 +1,7 @@
 -- Encoded keys by value: a buffer long enough for any key, and how much of it is the key. Document 01, 'Key bytes'. Assumes nothing.
-use Rattle.std.specs.Prelude.{ℕ, ◌+◌, ◌*◌, ◌≤◌, ◌≡◌, List, length, take}
+use Rattle.keycode.specs.declared.refusal.Refusal.{Refusal}
+use Rattle.std.specs.Prelude.{ℕ, ◌+◌, ◌*◌, ◌≤◌, ◌≡◌, List, length, take, Result, Ok, Err}
 use Rattle.keycode.specs.Limits.{max_key}
-use Rattle.keycode.specs.declared.refusal.Length.{Length}
-use Rattle.keycode.specs.declared.refusal.Length.TheVariants.{Done, Refused}
 use Rattle.keycode.specs.declared.code.Code.{Code}
 
 -- the longest encoding: a tag, a version, and a user key of zeros, escaped and ended
@@ -16,6 +15,6 @@ pub record Codes (r : Code) (e : List ℕ) : Type 0 where
   pub says : take r.len r.bytes ≡ e
 
 -- the code of what an encoder answered and left
-abbrev pub code_of : Length → List ℕ → Code
-code_of (Done n) b = record { len = n; bytes = b }
-code_of (Refused r) b = record { len = 0; bytes = b }
+abbrev pub code_of : Result ℕ Refusal → List ℕ → Code
+code_of (Ok n) b = record { len = n; bytes = b }
+code_of (Err r) b = record { len = 0; bytes = b }

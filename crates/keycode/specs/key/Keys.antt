@@ -1,18 +1,14 @@
 -- The six keys of the store: their bytes, and what bytes are a key or why they are none. Document 01, 'Key bytes'. Assumes nothing.
-use Rattle.std.specs.Prelude.{ℕ, zero, suc, ◌+◌, ◌-◌, List, [], ◌∷◌, ◌++◌, length, take, drop, leb}
+use Rattle.keycode.specs.declared.strings.Fault.{Fault}
+use Rattle.keycode.specs.declared.refusal.Refusal.{Refusal}
+use Rattle.std.specs.Prelude.{ℕ, zero, suc, ◌+◌, ◌-◌, List, [], ◌∷◌, ◌++◌, length, take, drop, leb, Result, Ok, Err}
 use Rattle.keycode.specs.Tests.{pick}
 use Rattle.keycode.specs.Number.{be, num}
 use Rattle.keycode.specs.Strings.{escape_body, escape, unescaped, scanned, fault}
 use Rattle.keycode.specs.declared.refusal.Refusal.TheVariants.{BadStore}
 use Rattle.keycode.specs.declared.strings.Reason.TheVariants.{TooFew, UnknownTag, LeftOver}
-use Rattle.keycode.specs.declared.strings.Scanned.{Scanned}
-use Rattle.keycode.specs.declared.strings.Scanned.TheVariants.{Ended, Broken}
 use Rattle.keycode.specs.declared.key.Key.{Key}
 use Rattle.keycode.specs.declared.key.Key.TheVariants.{NextVersion, TxnActive, TxnActiveSnapshot, TxnWrite, Version, Unversioned}
-use Rattle.keycode.specs.declared.key.Decoded.{Decoded}
-use Rattle.keycode.specs.declared.key.Decoded.TheVariants.{Whole, Refused}
-use Rattle.keycode.specs.declared.key.Reading.{Reading}
-use Rattle.keycode.specs.declared.key.Reading.TheVariants.{Read, Faulty}
 
 -- a key with its fields
 pub data Fields : Type 0 where
@@ -56,20 +52,20 @@ user_key (unversioned s) = s
 -- ---- decoding
 
 -- a key of l bytes that is to have exactly n
-unfoldable pub exactly : ℕ → ℕ → Key → Reading
-exactly n l k = pick (leb n l) (pick (leb l n) (Read k) (Faulty (fault LeftOver n))) (Faulty (fault TooFew l))
+unfoldable pub exactly : ℕ → ℕ → Key → Result Key Fault
+exactly n l k = pick (leb n l) (pick (leb l n) (Ok k) (Err (fault LeftOver n))) (Err (fault TooFew l))
 
 -- where the string that starts at index `at` of the key b ends
-unfoldable pub string_at : ℕ → ℕ → List ℕ → Scanned
-string_at limit at b = pick (leb at (length b)) (scanned limit at (drop at b)) (Broken (fault TooFew (length b)))
+unfoldable pub string_at : ℕ → ℕ → List ℕ → Result ℕ Fault
+string_at limit at b = pick (leb at (length b)) (scanned limit at (drop at b)) (Err (fault TooFew (length b)))
 
 -- what follows where a string has ended
-unfoldable pub on_ended : Scanned → (ℕ → Reading) → Reading
-on_ended (Ended i) f = f i
-on_ended (Broken w) f = Faulty w
+unfoldable pub on_ended : Result ℕ Fault → (ℕ → Result Key Fault) → Result Key Fault
+on_ended (Ok i) f = f i
+on_ended (Err w) f = Err w
 
 -- the key that bytes with the tag t are
-unfoldable pub key_of : ℕ → ℕ → List ℕ → Reading
+unfoldable pub key_of : ℕ → ℕ → List ℕ → Result Key Fault
 key_of limit zero b = exactly 1 (length b) NextVersion
 key_of limit (suc zero) b = exactly 9 (length b) (TxnActive (num (take 8 (drop 1 b))))
 key_of limit (suc (suc zero)) b = exactly 9 (length b) (TxnActiveSnapshot (num (take 8 (drop 1 b))))
@@ -79,17 +75,17 @@ key_of limit (suc (suc (suc (suc zero)))) b =
     on_ended (string_at limit 1 b) (λ i. exactly (i + 10) (length b) (Version (record { at = 1; len = i - 1 }) (num (take 8 (drop (i + 2) b)))))
 key_of limit (suc (suc (suc (suc (suc zero))))) b =
     on_ended (string_at limit 1 b) (λ i. exactly (i + 2) (length b) (Unversioned (record { at = 1; len = i - 1 })))
-key_of limit (suc (suc (suc (suc (suc (suc t)))))) b = Faulty (fault UnknownTag 0)
+key_of limit (suc (suc (suc (suc (suc (suc t)))))) b = Err (fault UnknownTag 0)
 
 -- the key that bytes are, its user key at most `limit` long, or the reason why they are none and the byte that decides
-unfoldable pub decode_why : ℕ → List ℕ → Reading
-decode_why limit [] = Faulty (fault TooFew 0)
+unfoldable pub decode_why : ℕ → List ℕ → Result Key Fault
+decode_why limit [] = Err (fault TooFew 0)
 decode_why limit (t ∷ r) = key_of limit t (t ∷ r)
 
 -- document 01's answer: the key, or 12 whatever the fault
-abbrev pub forget : Reading → Decoded
-forget (Read k) = Whole k
-forget (Faulty w) = Refused BadStore
+abbrev pub forget : Result Key Fault → Result Key Refusal
+forget (Ok k) = Ok k
+forget (Err w) = Err BadStore
 
 -- the fields of a decoded key of the bytes b, its string unescaped
 abbrev pub fields_of : List ℕ → Key → Fields

@@ -4,38 +4,38 @@ ghost use Rattle.std.specs.Prelude.{◌≡◌, length};
 ghost use Rattle.keycode.specs.Limits.{max_key};
 ghost use Rattle.keycode.specs.key.Keys.{exactly as exactly_of, string_at, decode_why, forget};
 
-use crate::key::{Decoded, Key, Reading};
+use crate::key::Key;
 use crate::number::get_number;
 use crate::parts::{Part, clip};
 use crate::refusal::Refusal;
-use crate::strings::{Fault, Reason, Scanned, scan};
+use crate::strings::{Fault, Reason, scan};
 
 // The key, if its `len` bytes are the n that it should have.
-fn exactly(n: usize, len: usize, key: Key) -> Reading
+fn exactly(n: usize, len: usize, key: Key) -> Result<Key, Fault>
     ensures { result ≡ exactly_of n len key }
 {
     if len < n {
-        return Reading::Faulty(Fault {
+        return Err(Fault {
             reason: Reason::TooFew,
             at: len,
         });
     }
     if n < len {
-        Reading::Faulty(Fault {
+        Err(Fault {
             reason: Reason::LeftOver,
             at: n,
         })
     } else {
-        Reading::Read(key)
+        Ok(key)
     }
 }
 
 // A string that starts at index at; too few bytes where the key ends before that.
-fn string_at(key: &[u8], at: usize) -> Scanned
+fn string_at(key: &[u8], at: usize) -> Result<usize, Fault>
     ensures { result ≡ string_at max_key at key.now }
 {
     if key.len() < at {
-        Scanned::Broken(Fault {
+        Err(Fault {
             reason: Reason::TooFew,
             at: key.len(),
         })
@@ -44,12 +44,12 @@ fn string_at(key: &[u8], at: usize) -> Scanned
     }
 }
 
-fn decode_why(key: &[u8]) -> Reading
+fn decode_why(key: &[u8]) -> Result<Key, Fault>
     ensures { result ≡ decode_why max_key key.now }
 {
     let n = key.len();
     if n == 0 {
-        return Reading::Faulty(Fault {
+        return Err(Fault {
             reason: Reason::TooFew,
             at: 0,
         });
@@ -61,25 +61,21 @@ fn decode_why(key: &[u8]) -> Reading
         1 => exactly(9, n, Key::TxnActive(first)),
         2 => exactly(9, n, Key::TxnActiveSnapshot(first)),
         3 => match string_at(key, 9) {
-            Scanned::Ended(i) => exactly(
-                i + 2,
-                n,
-                Key::TxnWrite(first, Part { at: 9, len: i - 9 }),
-            ),
-            Scanned::Broken(f) => Reading::Faulty(f),
+            Ok(i) => exactly(i + 2, n, Key::TxnWrite(first, Part { at: 9, len: i - 9 })),
+            Err(f) => Err(f),
         },
         4 => match string_at(key, 1) {
-            Scanned::Ended(i) => {
+            Ok(i) => {
                 let version = get_number(clip(key, i + 2, 8));
                 exactly(i + 10, n, Key::Version(Part { at: 1, len: i - 1 }, version))
             }
-            Scanned::Broken(f) => Reading::Faulty(f),
+            Err(f) => Err(f),
         },
         5 => match string_at(key, 1) {
-            Scanned::Ended(i) => exactly(i + 2, n, Key::Unversioned(Part { at: 1, len: i - 1 })),
-            Scanned::Broken(f) => Reading::Faulty(f),
+            Ok(i) => exactly(i + 2, n, Key::Unversioned(Part { at: 1, len: i - 1 })),
+            Err(f) => Err(f),
         },
-        _ => Reading::Faulty(Fault {
+        _ => Err(Fault {
             reason: Reason::UnknownTag,
             at: 0,
         }),
@@ -87,11 +83,11 @@ fn decode_why(key: &[u8]) -> Reading
 }
 
 // The key that bytes are.
-pub fn decode(key: &[u8]) -> Decoded
+pub fn decode(key: &[u8]) -> Result<Key, Refusal>
     ensures { result ≡ forget (decode_why max_key key.now) }
 {
     match decode_why(key) {
-        Reading::Read(k) => Decoded::Whole(k),
-        Reading::Faulty(_) => Decoded::Refused(Refusal::BadStore),
+        Ok(k) => Ok(k),
+        Err(_) => Err(Refusal::BadStore),
     }
 }

@@ -5,14 +5,13 @@ use mathlib.Core.Bool.{Bool, true, false, not}
 use mathlib.Core.List.{List}
 use lib.ListN.{length, take}
 use borrow.Author.Tests.{not-true, not-false}
+use Rattle.std.specs.Prelude.{Result, Ok, Err}
 use Rattle.keycode.specs.declared.refusal.Refusal.{Refusal}
 use Rattle.keycode.specs.declared.refusal.Refusal.TheVariants.{NotOpen, BadRequest}
 use Rattle.keycode.proofs.Basics.{nope}
 use Rattle.bitcask.specs.declared.request.Used.{Used}
 use Rattle.bitcask.specs.recovery.Agree.{fit, Agrees}
-use Rattle.bitcask.specs.declared.append.Check.{Check}
 use Rattle.bitcask.specs.declared.engine.mark.Mark.{Mark}
-use Rattle.bitcask.specs.declared.engine.mark.Entered.{Entered}
 use Rattle.bitcask.specs.engine.Rows.{Row, rows}
 use Rattle.bitcask.specs.engine.Marks.{mark_of, entered_by, Held, Agreeing}
 use Rattle.bitcask.specs.engine.Spots.{has_row}
@@ -25,8 +24,6 @@ use Rattle.keycode.specs.declared.code.Code.{Code}
 use Rattle.keycode.specs.code.Codes.{Codes}
 use Rattle.mvcc.specs.request.Checks.{active_key, open_by, admit_by, open_in}
 use Rattle.mvcc.proofs.request.CheckLaws.{open_live}
-use Rattle.mvcc.specs.declared.admission.Admitted.{Admitted}
-use Rattle.mvcc.specs.declared.admission.Admitted.TheVariants.{Fine, Refused}
 use Rattle.mvcc.specs.admission.Admits.{check_of, Admits}
 
 -- the look-up of the handle's key by its code
@@ -36,15 +33,15 @@ open_look rs h c b r n m w e = e ∙ rw w.says (open_live h (has_row (active_key
 
 -- ---- all of them
 
-module _ (log : List ℕ) (used : Used) (t : List ℕ) (h : Handle) {r : Entered} (says : r ≡ entered_by log used t) where
-  pub admit_out : (x : Refusal) → r ≡ Entered.Refused x → Admits log used t h (Refused x)
+module _ (log : List ℕ) (used : Used) (t : List ℕ) (h : Handle) {r : Result Mark Refusal} (says : r ≡ entered_by log used t) where
+  pub admit_out : (x : Refusal) → r ≡ Err x → Admits log used t h (Err x)
   unfolding admit_by
   admit_out x e =
       let w = refused_fits log used t r says x e in
-      record { check = rw w.0 (ap Check.Refused w.1); mark = λ m q. nope (cc) }
+      record { check = rw w.0 (ap Err w.1); mark = λ m q. nope (cc) }
 
-  module _ {m : Mark} (e : r ≡ Entered.In m) {b : Bool} (eb : b ≡ sound_handle h) where
-    pub admit_handle : not b ≡ true → Admits log used t h (Refused BadRequest)
+  module _ {m : Mark} (e : r ≡ Ok m) {b : Bool} (eb : b ≡ sound_handle h) where
+    pub admit_handle : not b ≡ true → Admits log used t h (Err BadRequest)
     unfolding admit_by
     admit_handle n =
         record { check = rw ((in_fits log used t r says m e).0, ← eb, not-true b n); mark = λ k q. nope (cc) }
@@ -53,7 +50,7 @@ module _ (log : List ℕ) (used : Used) (t : List ℕ) (h : Handle) {r : Entered
       here : open_by h (has_row (active_key h) (rows log t (mark_of used t))) ≡ o
       here = sym (eo ∙ ap (λ (k : Mark). open_by h (has_row (active_key h) (rows log t k))) (in_fits log used t r says m e).1)
 
-      pub admit_fine : o ≡ true → Admits log used t h (Fine m)
+      pub admit_fine : o ≡ true → Admits log used t h (Ok m)
       unfolding admit_by
       admit_fine q =
           record {
@@ -61,26 +58,26 @@ module _ (log : List ℕ) (used : Used) (t : List ℕ) (h : Handle) {r : Entered
             mark = λ k p. let z : m ≡ k = cc in sym z ∙ (in_fits log used t r says m e).1;
           }
 
-      pub admit_closed : o ≡ false → Admits log used t h (Refused NotOpen)
+      pub admit_closed : o ≡ false → Admits log used t h (Err NotOpen)
       unfolding admit_by
       admit_closed q = record { check = rw ((in_fits log used t r says m e).0, ← eb, not-false b n, here, q); mark = λ k p. nope (cc) }
 
 -- ---- what a caller knows
 
-fine_fits : (f s a : Bool) → Check.Fine ≡ admit_by f s a → f ≡ true
+fine_fits : (f s a : Bool) → (Ok tt) ≡ admit_by f s a → f ≡ true
 unfolding admit_by
 fine_fits true s a e = refl
 fine_fits false s a e = nope (cc)
 
-module _ (log : List ℕ) (used : Used) (t : List ℕ) (h : Handle) {r : Admitted} (w : Admits log used t h r) (m : Mark) (e : r ≡ Fine m) where
-  fine_check : Check.Fine ≡ admit_by (fit (length log) used.len (length t)) (sound_handle h) (open_by h (has_row (active_key h) (rows log t (mark_of used t))))
+module _ (log : List ℕ) (used : Used) (t : List ℕ) (h : Handle) {r : Result Mark Refusal} (w : Admits log used t h r) (m : Mark) (e : r ≡ Ok m) where
+  fine_check : (Ok tt) ≡ admit_by (fit (length log) used.len (length t)) (sound_handle h) (open_by h (has_row (active_key h) (rows log t (mark_of used t))))
   fine_check = sym (ap check_of e) ∙ w.check
 
   pub fine_held : Held log t m
   unfolding entered_by
   fine_held =
       let f : fit (length log) used.len (length t) ≡ true = fine_fits (fit (length log) used.len (length t)) (sound_handle h) (open_by h (has_row (active_key h) (rows log t (mark_of used t)))) fine_check in
-      in_held log used t (Entered.In m) (ap Entered.In (w.mark m e) ∙ rw f) m refl
+      in_held log used t (Ok m) (ap Ok (w.mark m e) ∙ rw f) m refl
 
   pub fine_agreeing : Agrees log used.len t → Agreeing log t m
   fine_agreeing g = rw (w.mark m e) (record { agrees = g; count = refl })

@@ -8,23 +8,17 @@ use mathlib.Core.List.{List}
 use native.Mathlib.Omega.{arith}
 use lib.Dec.{leb}
 use lib.ListN.{length}
+use Rattle.std.specs.Prelude.{Result, ℕ, Ok, Err, Option, Some, None, ⊤}
 use Rattle.keycode.specs.Tests.{pick}
 use Rattle.keycode.specs.declared.refusal.Refusal.{Refusal}
 use Rattle.keycode.specs.declared.refusal.Refusal.TheVariants.{TableFull}
 use Rattle.bitcask.specs.entry.Entry.{Entry}
-use Rattle.bitcask.specs.declared.keydir.place.Found.{Found as Place}
 use Rattle.bitcask.specs.keydir.Slots.{slot_words, slots_of}
 use Rattle.bitcask.specs.keydir.Place.{count_of}
 use Rattle.bitcask.specs.declared.request.Used.{Used}
-use Rattle.bitcask.specs.declared.request.Changed.{Changed}
-use Rattle.bitcask.specs.declared.request.Changed.TheVariants as Change
 use Rattle.bitcask.specs.recovery.Recover.{map_of}
 use Rattle.bitcask.specs.recovery.Agree.{Agrees}
 use Rattle.bitcask.specs.recovery.Promises.{changed_number}
-use Rattle.bitcask.specs.declared.append.Room.{Room}
-use Rattle.bitcask.specs.declared.append.Room.TheVariants.{Left, Full}
-use Rattle.bitcask.specs.declared.append.Check.{Check}
-use Rattle.bitcask.specs.declared.append.Check.TheVariants.{Fine, Refused}
 use Rattle.bitcask.specs.change.Append.{State, judge, wants, size_all, append_answer}
 use Rattle.bitcask.specs.declared.engine.mark.Mark.{Mark}
 use Rattle.bitcask.specs.engine.Marks.{Held}
@@ -35,51 +29,51 @@ use Rattle.mvcc.proofs.request.FitLaws.{judge-says, sets-judged, sets-fit, answe
 use Rattle.mvcc.proofs.append.LayLaws.{Lays, tries_lays}
 use Rattle.mvcc.specs.append.Appends.{Appends}
 
-pub wants-few : (f : Place) → wants f ≤ 1
-wants-few (Place.At i) = omega arith
-wants-few (Place.Before i) = omega arith
+pub wants-few : (f : Result ℕ ℕ) → wants f ≤ 1
+wants-few (Ok i) = omega arith
+wants-few (Err i) = omega arith
 
 -- what a judgement can answer
-judge-numbers : (room : Room) (fresh free : ℕ) (u : Used) → (changed_number (or_else (judge room fresh free) (Change.Done u)) ≡ 0)
-    ⊎ ((changed_number (or_else (judge room fresh free) (Change.Done u)) ≡ 7) ⊎ (changed_number (or_else (judge room fresh free) (Change.Done u)) ≡ 8))
-judge-numbers Full fresh free u = inr (inl refl)
-judge-numbers (Left n) fresh free u = go (leb fresh free)
+judge-numbers : (room : Option ℕ) (fresh free : ℕ) (u : Used) → (changed_number (or_else (judge room fresh free) (Ok u)) ≡ 0)
+    ⊎ ((changed_number (or_else (judge room fresh free) (Ok u)) ≡ 7) ⊎ (changed_number (or_else (judge room fresh free) (Ok u)) ≡ 8))
+judge-numbers None fresh free u = inr (inl refl)
+judge-numbers (Some n) fresh free u = go (leb fresh free)
   where
-    go : (b : Bool) → (changed_number (or_else (pick b Fine (Refused TableFull)) (Change.Done u)) ≡ 0)
-        ⊎ ((changed_number (or_else (pick b Fine (Refused TableFull)) (Change.Done u)) ≡ 7) ⊎ (changed_number (or_else (pick b Fine (Refused TableFull)) (Change.Done u)) ≡ 8))
+    go : (b : Bool) → (changed_number (or_else (pick b (Ok tt) (Err TableFull)) (Ok u)) ≡ 0)
+        ⊎ ((changed_number (or_else (pick b (Ok tt) (Err TableFull)) (Ok u)) ≡ 7) ⊎ (changed_number (or_else (pick b (Ok tt) (Err TableFull)) (Ok u)) ≡ 8))
     go true = inl refl
     go false = inr (inr refl)
 
-tried-numbers : (log : List ℕ) (used : ℕ) (t : List ℕ) (n : ℕ) (es : List Entry) {r : Changed} {log' t' : List ℕ} → Tries log used t n es r log' t'
+tried-numbers : (log : List ℕ) (used : ℕ) (t : List ℕ) (n : ℕ) (es : List Entry) {r : Result Used Refusal} {log' t' : List ℕ} → Tries log used t n es r log' t'
     → (changed_number r ≡ 0) ⊎ ((changed_number r ≡ 7) ⊎ (changed_number r ≡ 8))
 unfolding judge_all
 tried-numbers log used t n es w =
-    rw w.answer (judge-numbers (room_all (Left (length log - used)) es) (fresh_all log es (slots_of n t)) (length t / slot_words - n) (record { len = used + size_all es }))
+    rw w.answer (judge-numbers (room_all (Some (length log - used)) es) (fresh_all log es (slots_of n t)) (length t / slot_words - n) (record { len = used + size_all es }))
 
 -- entries that were judged together, before the first was laid
-pub record Tried (log t : List ℕ) (m : Mark) (es : List Entry) (x : Check) : Type 0 where
+pub record Tried (log t : List ℕ) (m : Mark) (es : List Entry) (x : Result ⊤ Refusal) : Type 0 where
   pub held : Held log t m
   pub counted : m.count ≡ count_of t
   pub sets : Sets es
   pub apart : Apart es
   pub judged : x ≡ judge_all log m.used.len t m.count es
 
-module _ {log t : List ℕ} {m : Mark} {es : List Entry} {x : Check} (w : Tried log t m es x) where
+module _ {log t : List ℕ} {m : Mark} {es : List Entry} {x : Result ⊤ Refusal} (w : Tried log t m es x) where
   abbrev whole : State
   whole = appended_all (state_of log m.used.len t m.count) es
 
-  lays_of : (r : Changed) (log' t' : List ℕ) → Tries log m.used.len t m.count es r log' t' → Lays log m.used.len t es r log' t'
+  lays_of : (r : Result Used Refusal) (log' t' : List ℕ) → Tries log m.used.len t m.count es r log' t' → Lays log m.used.len t es r log' t'
   lays_of r log' t' y = tries_lays log m.used.len t m.count es w.held.within w.counted w.sets w.apart r log' t' y
 
-  pub all_refused : (r : Refusal) → x ≡ Refused r → Appends log t m es (Change.Refused r) log t
+  pub all_refused : (r : Refusal) → x ≡ Err r → Appends log t m es (Err r) log t
   all_refused r q =
-      let j : judge_all log m.used.len t m.count es ≡ Refused r = sym w.judged ∙ q in
-      let y : Tries log m.used.len t m.count es (Change.Refused r) log t = record { answer = rw j; bytes = rw j; words = rw j } in
-      let l = lays_of (Change.Refused r) log t y in
+      let j : judge_all log m.used.len t m.count es ≡ Err r = sym w.judged ∙ q in
+      let y : Tries log m.used.len t m.count es (Err r) log t = record { answer = rw j; bytes = rw j; words = rw j } in
+      let l = lays_of (Err r) log t y in
       record { leaves = l.leaves; numbers = tried-numbers log m.used.len t m.count es y; full = l.full; answer = l.answer }
 
-  module _ (q : x ≡ Fine) where
-    fine : judge_all log m.used.len t m.count es ≡ Fine
+  module _ (q : x ≡ (Ok tt)) where
+    fine : judge_all log m.used.len t m.count es ≡ (Ok tt)
     fine = sym w.judged ∙ q
 
     pub all_room : m.used.len + size_all es ≤ length log
@@ -88,10 +82,10 @@ module _ {log t : List ℕ} {m : Mark} {es : List Entry} {x : Check} (w : Tried 
         let y = judge-says es (length log - m.used.len) (fresh_all log es (slots_of m.count t)) (length t / slot_words - m.count) fine in
         omega (arith, y.0, w.held.within)
 
-    tries : Tries log m.used.len t m.count es (Change.Done (record { len = whole.used })) whole.log whole.table
+    tries : Tries log m.used.len t m.count es (Ok (record { len = whole.used })) whole.log whole.table
     tries =
         record {
-          answer = rw fine (ap (λ (y : ℕ). Change.Done (record { len = y })) (all-used (state_of log m.used.len t m.count) es));
+          answer = rw fine (ap (λ (y : ℕ). Ok (record { len = y })) (all-used (state_of log m.used.len t m.count) es));
           bytes = rw fine;
           words = rw fine;
         }
@@ -106,13 +100,13 @@ module _ {log t : List ℕ} {m : Mark} {es : List Entry} {x : Check} (w : Tried 
     -- what was laid is right wherever the table agrees
     module _ (l : State) (el : whole.log ≡ l.log) (eu : whole.used ≡ l.used) (long : length l.table ≡ length t)
         (right : Agrees log m.used.len t → Fitting (length t / slot_words) es (map_of log m.used.len) → whole.table ≡ l.table) where
-      laid : Lays log m.used.len t es (Change.Done (record { len = l.used })) l.log whole.table
+      laid : Lays log m.used.len t es (Ok (record { len = l.used })) l.log whole.table
       laid =
-          subst (λ (z : ℕ). Lays log m.used.len t es (Change.Done (record { len = z })) l.log whole.table) eu
-          (subst (λ (z : List ℕ). Lays log m.used.len t es (Change.Done (record { len = whole.used })) z whole.table) el
-          (lays_of (Change.Done (record { len = whole.used })) whole.log whole.table tries))
+          subst (λ (z : ℕ). Lays log m.used.len t es (Ok (record { len = z })) l.log whole.table) eu
+          (subst (λ (z : List ℕ). Lays log m.used.len t es (Ok (record { len = whole.used })) z whole.table) el
+          (lays_of (Ok (record { len = whole.used })) whole.log whole.table tries))
 
-      pub all_done : Appends log t m es (Change.Done (record { len = l.used })) l.log l.table
+      pub all_done : Appends log t m es (Ok (record { len = l.used })) l.log l.table
       all_done =
           let y = laid in
           record {

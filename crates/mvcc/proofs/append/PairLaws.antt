@@ -4,27 +4,24 @@ use mathlib.Core.Path.{◌≡◌, refl, sym, ap, ◌∙◌}
 use mathlib.Core.List.{List, [], ◌∷◌, ◌++◌, append-nil}
 use native.Mathlib.Omega.{arith}
 use lib.ListN.{length, length-append}
+use Rattle.std.specs.Prelude.{Result, ℕ, Ok, Option, ⊤}
+use Rattle.keycode.specs.declared.refusal.Refusal.{Refusal}
+use Rattle.bitcask.specs.declared.engine.spot.Spot.{Spot}
+use Rattle.std.specs.declared.cmp.Ordering.{Ordering}
+use Rattle.std.specs.declared.cmp.Ordering.TheVariants.{Less, Equal}
 use Rattle.keycode.specs.Limits.{max_log}
 use Rattle.keycode.specs.Order.{compare_bytes}
-use Rattle.keycode.specs.declared.order.Order.{Order}
-use Rattle.keycode.specs.declared.order.Order.TheVariants.{Less, Equal}
 use Rattle.keycode.proofs.OrderLaws.{compare_refl}
 use Rattle.keycode.proofs.Basics.{nope}
 use Rattle.bitcask.specs.entry.Entry.{Entry, set, size_of}
-use Rattle.bitcask.specs.declared.keydir.place.Found.{Found as Place}
 use Rattle.bitcask.specs.keydir.Slots.{slot_words, slots_of}
 use Rattle.bitcask.specs.keydir.Place.{Among, place_of, all_none, all_more}
-use Rattle.bitcask.specs.declared.request.Changed.TheVariants as Change
 use Rattle.bitcask.specs.recovery.Map.{Pair, after}
 use Rattle.bitcask.specs.recovery.Recover.{map_of}
 use Rattle.bitcask.specs.recovery.Agree.{Agrees}
-use Rattle.bitcask.specs.declared.append.Room.{Room}
-use Rattle.bitcask.specs.declared.append.Check.{Check}
-use Rattle.bitcask.specs.declared.append.Check.TheVariants.{Fine}
 use Rattle.bitcask.specs.change.Append.{State, appended, room_after, wants, fresh_in, size_all}
 use Rattle.bitcask.proofs.change.AppendLaws.{fresh_is}
 use Rattle.bitcask.specs.declared.engine.mark.Mark.{Mark}
-use Rattle.bitcask.specs.declared.engine.spot.Found.{Found}
 use Rattle.bitcask.specs.engine.Rows.{rows}
 use Rattle.bitcask.specs.engine.Marks.{mark_of, Held}
 use Rattle.bitcask.specs.engine.Spots.{placed, place_by}
@@ -45,10 +42,10 @@ pair_of first value second payload = set first value ∷ set second payload ∷ 
 
 -- a key is not a greater one
 pub keys_differ : {a b : List ℕ} → compare_bytes a b ≡ Less → a ≡ b → ⊥
-keys_differ {a} {b} less e = let z : ◌≡◌ {A = Order} Equal Less = sym (compare_refl b) ∙ (rw e at less) in nope (cc)
+keys_differ {a} {b} less e = let z : ◌≡◌ {A = Ordering} Equal Less = sym (compare_refl b) ∙ (rw e at less) in nope (cc)
 
-pub pair-tried : (log t : List ℕ) (m : Mark) (first value second head body : List ℕ) → Held log t m → m ≡ mark_of m.used t → compare_bytes first second ≡ Less → (f g : Found)
-    → placed f (rows log t m) ≡ place_by first (rows log t m) → placed g (rows log t m) ≡ place_by second (rows log t m) → {room one two : Room} {a b : ℕ} {x : Check} → room ≡ room_in log m
+pub pair-tried : (log t : List ℕ) (m : Mark) (first value second head body : List ℕ) → Held log t m → m ≡ mark_of m.used t → compare_bytes first second ≡ Less → (f g : Result Spot Spot)
+    → placed f (rows log t m) ≡ place_by first (rows log t m) → placed g (rows log t m) ≡ place_by second (rows log t m) → {room one two : Option ℕ} {a b : ℕ} {x : Result ⊤ Refusal} → room ≡ room_in log m
     → one ≡ room_after room (length first) (length value) → two ≡ room_after one (length second) (length head + length body) → a ≡ wants (spot_place f) → b ≡ wants (spot_place g)
     → x ≡ judge_in t m two (a + b) → Tried log t m (pair_of first value second (head ++ body)) x
 unfolding judge_all room_all fresh_all judge_in room_in
@@ -75,7 +72,7 @@ pair-tried log t m first value second head body held marked less f g ef eg er e�
 
 -- ---- two sets at places that were found before the first
 
-pub two_right : (s : State) (k v k₂ v₂ : List ℕ) (f g : Place) → f ≡ place_of s.log k (slots_of s.count s.table) → g ≡ place_of s.log k₂ (slots_of s.count s.table) → Agreed s
+pub two_right : (s : State) (k v k₂ v₂ : List ℕ) (f g : Result ℕ ℕ) → f ≡ place_of s.log k (slots_of s.count s.table) → g ≡ place_of s.log k₂ (slots_of s.count s.table) → Agreed s
     → length s.log ≤ max_log → s.used + size_of (set k v) ≤ length s.log → length (after (set k v) (map_of s.log s.used)) ≤ length s.table / slot_words → compare_bytes k k₂ ≡ Less
     → set_at (set_at s f k v) (up_by ((set_at s f k v).count - s.count) g) k₂ v₂ ≡ appended (appended s (set k v)) (set k₂ v₂)
 two_right s k v k₂ v₂ f g ef eg a small room fits less =
@@ -87,7 +84,7 @@ first_fits (fitting_more k f) = k
 
 -- ---- as the code does it
 
-module _ {log t : List ℕ} {m : Mark} {first value second : List ℕ} (head body : List ℕ) {x : Check} (w : Tried log t m (pair_of first value second (head ++ body)) x) (q : x ≡ Fine) where
+module _ {log t : List ℕ} {m : Mark} {first value second : List ℕ} (head body : List ℕ) {x : Result ⊤ Refusal} (w : Tried log t m (pair_of first value second (head ++ body)) x) (q : x ≡ (Ok tt)) where
   pair_size : size_all (pair_of first value second (head ++ body)) ≡ 8 + length first + length value + (8 + length second + length head + length body)
   unfolding size_all
   pair_size = simp (length-append head body) (omega arith)
@@ -95,7 +92,7 @@ module _ {log t : List ℕ} {m : Mark} {first value second : List ℕ} (head bod
   pub pair-first : m.used.len + 8 + length first + length value + 0 ≤ length log
   pair-first = omega (arith, pair_size, all_room w q)
 
-  module _ (f g : Found) (ef : placed f (rows log t m) ≡ place_by first (rows log t m)) (eg : placed g (rows log t m) ≡ place_by second (rows log t m)) (log₁ t₁ : List ℕ) (k : Mark)
+  module _ (f g : Result Spot Spot) (ef : placed f (rows log t m) ≡ place_by first (rows log t m)) (eg : placed g (rows log t m) ≡ place_by second (rows log t m)) (log₁ t₁ : List ℕ) (k : Mark)
       (em : record { log = log₁; used = k.used.len; table = t₁; count = k.count }
       ≡ set_at (record { log = log; used = m.used.len; table = t; count = m.count }) (spot_place f) first (value ++ [])) where
     abbrev start : State
@@ -113,7 +110,7 @@ module _ {log t : List ℕ} {m : Mark} {first value second : List ℕ} (head bod
     pub pair-behind : (m.count ≤ k.count) × (Among m.count (spot_place g))
     pair-behind = (pair-after.grows, found_among log t second m g eg)
 
-    module _ (h : Found) (eh : spot_place h ≡ up_by (k.count - m.count) (spot_place g)) where
+    module _ (h : Result Spot Spot) (eh : spot_place h ≡ up_by (k.count - m.count) (spot_place g)) where
       second-among : Among k.count (spot_place h)
       second-among = rw eh (up_among m.count k.count (spot_place g) pair-after.grows (found_among log t second m g eg))
 
@@ -127,7 +124,7 @@ module _ {log t : List ℕ} {m : Mark} {first value second : List ℕ} (head bod
 
         last_set : last ≡ set_at (set_at start (spot_place f) first value) (up_by ((set_at start (spot_place f) first value).count - m.count) (spot_place g)) second (head ++ body)
         last_set =
-            el ∙ ap (λ (p : Place). set_at mid p second (head ++ body)) eh
+            el ∙ ap (λ (p : Result ℕ ℕ). set_at mid p second (head ++ body)) eh
             ∙ (λ j. set_at (first-set j) (up_by ((first-set j).count - m.count) (spot_place g)) second (head ++ body))
 
         mid_log : mid.log ≡ (appended start (set first value)).log
@@ -145,7 +142,7 @@ module _ {log t : List ℕ} {m : Mark} {first value second : List ℕ} (head bod
             (record { agrees = g'; counted = w.counted })
             w.held.small (omega (arith, pair-first)) (first_fits fit) less))
 
-        pub pair_done : Appends log t m (pair_of first value second (head ++ body)) (Change.Done l.used) log₂ t₂
+        pub pair_done : Appends log t m (pair_of first value second (head ++ body)) (Ok l.used) log₂ t₂
         unfolding appended_all
         pair_done =
             all_done w q last (sym (ap (λ (z : State). z.log) el ∙ same_log mid (appended start (set first value)) (spot_place h) second (head ++ body) mid_log mid_used))

@@ -5,14 +5,14 @@ use mathlib.Core.Path.{◌≡◌, sym, ap, ◌∙◌, subst}
 use mathlib.Core.List.{List, [], ◌∷◌}
 use native.Mathlib.Omega.{arith}
 use lib.ListN.{length, take, drop}
+use Rattle.std.specs.Prelude.{Result, ℕ}
+use Rattle.std.specs.declared.cmp.Ordering.TheVariants.{Less}
 use Rattle.keycode.specs.Limits.{max_log}
 use Rattle.keycode.specs.Buffer.{put}
 use Rattle.keycode.specs.Order.{compare_bytes}
-use Rattle.keycode.specs.declared.order.Order.TheVariants.{Less}
 use Rattle.bitcask.specs.entry.Entry.{set, bytes_of, size_of}
 use Rattle.bitcask.proofs.entry.EntryLaws.{key_back}
 use Rattle.bitcask.specs.declared.keydir.slots.Slot.{Slot}
-use Rattle.bitcask.specs.declared.keydir.place.Found.{Found as Place}
 use Rattle.bitcask.specs.keydir.Slots.{slot_words, slots_of, key_of}
 use Rattle.bitcask.specs.keydir.Place.{Among, place_of, place_in, put_at, count_of}
 use Rattle.bitcask.proofs.keydir.PlaceLaws.{place_in_among}
@@ -39,7 +39,7 @@ pub record After (log t : List ℕ) (m : Mark) (k v log' t' : List ℕ) (m' : Ma
   pub words : length t' ≡ length t
   pub grows : m.count ≤ m'.count
 
-pub set_after : (log t : List ℕ) (m : Mark) (f : Place) (k v log' t' : List ℕ) (m' : Mark) → Held log t m → Among m.count f → m.used.len + 8 + length k + length v ≤ length log
+pub set_after : (log t : List ℕ) (m : Mark) (f : Result ℕ ℕ) (k v log' t' : List ℕ) (m' : Mark) → Held log t m → Among m.count f → m.used.len + 8 + length k + length v ≤ length log
     → record { log = log'; used = m'.used.len; table = t'; count = m'.count } ≡ set_at (record { log = log; used = m.used.len; table = t; count = m.count }) f k v → After log t m k v log' t' m'
 set_after log t m f k v log' t' m' h a r e =
     let s : State = state_of log m.used.len t m.count in
@@ -55,11 +55,11 @@ set_after log t m f k v log' t' m' h a r e =
     }
 
 -- the bytes and the used length are the engine's, wherever the key was put
-pub same_log : (s z : State) (f : Place) (k v : List ℕ) → s.log ≡ z.log → s.used ≡ z.used → (set_at s f k v).log ≡ (appended z (set k v)).log
+pub same_log : (s z : State) (f : Result ℕ ℕ) (k v : List ℕ) → s.log ≡ z.log → s.used ≡ z.used → (set_at s f k v).log ≡ (appended z (set k v)).log
 unfolding set_at appended
 same_log s z f k v e u = λ j. put (e j) (u j) (bytes_of (set k v))
 
-pub same-used : (s z : State) (f : Place) (k v : List ℕ) → s.used ≡ z.used → (set_at s f k v).used ≡ (appended z (set k v)).used
+pub same-used : (s z : State) (f : Result ℕ ℕ) (k v : List ℕ) → s.used ≡ z.used → (set_at s f k v).used ≡ (appended z (set k v)).used
 unfolding set_at appended
 same-used s z f k v u = ap (λ (n : ℕ). n + size_of (set k v)) u
 
@@ -83,7 +83,7 @@ module _ (log : List ℕ) (used : ℕ) (t : List ℕ) (agree : Agrees log used t
   slots_then = append-step log used (set k v) small room agree.clean
 
   -- the place of another key, before and after
-  module _ (other : List ℕ) (n : ℕ) (en : n ≡ count_of t) (g : Place) (eg : g ≡ place_of log other (slots_of n t)) (t' : List ℕ) (again : Agrees longer (used + size_of (set k v)) t')
+  module _ (other : List ℕ) (n : ℕ) (en : n ≡ count_of t) (g : Result ℕ ℕ) (eg : g ≡ place_of log other (slots_of n t)) (t' : List ℕ) (again : Agrees longer (used + size_of (set k v)) t')
       (c : ℕ) (ec : c ≡ count_of t') where
     was : g ≡ place_in longer other (recovered log used)
     was = eg ∙ rw en (agrees-place log used t agree other) ∙ place_same log longer used (append-before log used (set k v) small room) other (recovered-inside log used)
@@ -104,7 +104,7 @@ module _ (log : List ℕ) (used : ℕ) (t : List ℕ) (agree : Agrees log used t
 
 -- ---- a set at its place, where the table agrees
 
-module _ (s : State) (k v : List ℕ) (f : Place) (ef : f ≡ place_of s.log k (slots_of s.count s.table)) (g : Agreed s) (small : length s.log ≤ max_log)
+module _ (s : State) (k v : List ℕ) (f : Result ℕ ℕ) (ef : f ≡ place_of s.log k (slots_of s.count s.table)) (g : Agreed s) (small : length s.log ≤ max_log)
     (room : s.used + size_of (set k v) ≤ length s.log) (fits : length (after (set k v) (map_of s.log s.used)) ≤ length s.table / slot_words) where
   one_size : size_all (set k v ∷ []) ≡ size_of (set k v)
   unfolding size_all
@@ -130,7 +130,7 @@ module _ (s : State) (k v : List ℕ) (f : Place) (ef : f ≡ place_of s.log k (
       → length (after (set k₂ v₂) (map_of (set_at s f k v).log (set_at s f k v).used)) ≤ length (set_at s f k v).table / slot_words
   step_fits k₂ v₂ h = rw (step_map, step_words) h
 
-  module _ (other : List ℕ) (h : Place) (eh : h ≡ place_of s.log other (slots_of s.count s.table)) where
+  module _ (other : List ℕ) (h : Result ℕ ℕ) (eh : h ≡ place_of s.log other (slots_of s.count s.table)) where
     pub step_up : compare_bytes k other ≡ Less
         → up_by ((set_at s f k v).count - s.count) h ≡ place_of (set_at s f k v).log other (slots_of (set_at s f k v).count (set_at s f k v).table)
     unfolding set_at

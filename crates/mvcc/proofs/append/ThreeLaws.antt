@@ -5,25 +5,22 @@ use mathlib.Core.Path.{◌≡◌, refl, sym, ap, ◌∙◌}
 use mathlib.Core.List.{List, [], ◌∷◌, ◌++◌, append-nil}
 use native.Mathlib.Omega.{arith}
 use lib.ListN.{length}
+use Rattle.std.specs.Prelude.{Result, ℕ, Ok, Err, Option, ⊤}
+use Rattle.keycode.specs.declared.refusal.Refusal.{Refusal}
+use Rattle.bitcask.specs.declared.engine.spot.Spot.{Spot}
+use Rattle.std.specs.declared.cmp.Ordering.TheVariants.{Less}
 use Rattle.keycode.specs.Limits.{max_log}
 use Rattle.keycode.specs.Order.{compare_bytes}
-use Rattle.keycode.specs.declared.order.Order.TheVariants.{Less}
 use Rattle.keycode.proofs.OrderLaws.{compare_trans}
 use Rattle.bitcask.specs.entry.Entry.{Entry, set, size_of}
-use Rattle.bitcask.specs.declared.keydir.place.Found.{Found as Place}
 use Rattle.bitcask.specs.keydir.Slots.{slot_words, slots_of}
 use Rattle.bitcask.specs.keydir.Place.{Among, place_of, all_none, all_more}
-use Rattle.bitcask.specs.declared.request.Changed.TheVariants as Change
 use Rattle.bitcask.specs.recovery.Map.{Pair, after}
 use Rattle.bitcask.specs.recovery.Recover.{map_of}
 use Rattle.bitcask.specs.recovery.Agree.{Agrees}
-use Rattle.bitcask.specs.declared.append.Room.{Room}
-use Rattle.bitcask.specs.declared.append.Check.{Check}
-use Rattle.bitcask.specs.declared.append.Check.TheVariants.{Fine}
 use Rattle.bitcask.specs.change.Append.{State, appended, room_after, wants, fresh_in, size_all}
 use Rattle.bitcask.proofs.change.AppendLaws.{fresh_is}
 use Rattle.bitcask.specs.declared.engine.mark.Mark.{Mark}
-use Rattle.bitcask.specs.declared.engine.spot.Found.{Found}
 use Rattle.bitcask.specs.engine.Rows.{rows}
 use Rattle.bitcask.specs.engine.Marks.{mark_of, Held}
 use Rattle.bitcask.specs.engine.Spots.{placed, place_by}
@@ -44,8 +41,8 @@ three_of first value second payload third = set first value ∷ set second paylo
 -- ---- the judgement
 
 pub three_tried : (log t : List ℕ) (m : Mark) (first value second payload third : List ℕ) → Held log t m → m ≡ mark_of m.used t → compare_bytes first third ≡ Less → compare_bytes third second ≡ Less
-    → (f g h : Found) → placed f (rows log t m) ≡ place_by first (rows log t m) → placed g (rows log t m) ≡ place_by second (rows log t m) → placed h (rows log t m) ≡ place_by third (rows log t m)
-    → {room one two three : Room} {a b c : ℕ} {x : Check} → room ≡ room_in log m → one ≡ room_after room (length first) (length value) → two ≡ room_after one (length second) (length payload)
+    → (f g h : Result Spot Spot) → placed f (rows log t m) ≡ place_by first (rows log t m) → placed g (rows log t m) ≡ place_by second (rows log t m) → placed h (rows log t m) ≡ place_by third (rows log t m)
+    → {room one two three : Option ℕ} {a b c : ℕ} {x : Result ⊤ Refusal} → room ≡ room_in log m → one ≡ room_after room (length first) (length value) → two ≡ room_after one (length second) (length payload)
     → three ≡ room_after two (length third) 0 → a ≡ wants (spot_place f) → b ≡ wants (spot_place g) → c ≡ wants (spot_place h) → x ≡ judge_in t m three (a + b + c)
     → Tried log t m (three_of first value second payload third) x
 unfolding judge_all room_all fresh_all judge_in room_in
@@ -79,14 +76,14 @@ three_tried log t m first value second payload third held marked low high f g h 
 
 -- ---- three sets at places that were found before the first
 
-module _ (s : State) (k v k₂ v₂ k₃ v₃ : List ℕ) (f g h : Place) (ef : f ≡ place_of s.log k (slots_of s.count s.table)) (eg : g ≡ place_of s.log k₂ (slots_of s.count s.table))
+module _ (s : State) (k v k₂ v₂ k₃ v₃ : List ℕ) (f g h : Result ℕ ℕ) (ef : f ≡ place_of s.log k (slots_of s.count s.table)) (eg : g ≡ place_of s.log k₂ (slots_of s.count s.table))
     (eh : h ≡ place_of s.log k₃ (slots_of s.count s.table)) (a : Agreed s) (small : length s.log ≤ max_log) (room : s.used + size_of (set k v) + size_of (set k₂ v₂) ≤ length s.log)
     (fits : length (after (set k v) (map_of s.log s.used)) ≤ length s.table / slot_words)
     (more : length (after (set k₂ v₂) (after (set k v) (map_of s.log s.used))) ≤ length s.table / slot_words) (low : compare_bytes k k₃ ≡ Less) (high : compare_bytes k₃ k₂ ≡ Less) where
   abbrev s₁ : State
   s₁ = set_at s f k v
 
-  abbrev up : Place → Place
+  abbrev up : Result ℕ ℕ → Result ℕ ℕ
   up p = up_by (s₁.count - s.count) p
 
   abbrev s₂ : State
@@ -113,13 +110,13 @@ module _ (s : State) (k v k₂ v₂ k₃ v₃ : List ℕ) (f g h : Place) (ef : 
 two_fit : {cap : ℕ} {e d : Entry} {ds : List Entry} {m : List Pair} → Fitting cap (e ∷ d ∷ ds) m → (length (after e m) ≤ cap) × (length (after d (after e m)) ≤ cap)
 two_fit (fitting_more k (fitting_more j f)) = (k, j)
 
-among-more : (n c : ℕ) (f : Place) → n ≤ c → Among n f → Among c f
-among-more n c (Place.At i) h a = omega arith
-among-more n c (Place.Before i) h a = omega arith
+among-more : (n c : ℕ) (f : Result ℕ ℕ) → n ≤ c → Among n f → Among c f
+among-more n c (Ok i) h a = omega arith
+among-more n c (Err i) h a = omega arith
 
 -- ---- as the code does it
 
-module _ {log t : List ℕ} {m : Mark} {first value second payload third : List ℕ} {x : Check} (w : Tried log t m (three_of first value second payload third) x) (q : x ≡ Fine) where
+module _ {log t : List ℕ} {m : Mark} {first value second payload third : List ℕ} {x : Result ⊤ Refusal} (w : Tried log t m (three_of first value second payload third) x) (q : x ≡ (Ok tt)) where
   three_size : size_all (three_of first value second payload third) ≡ 8 + length first + length value + (8 + length second + length payload + (8 + length third))
   unfolding size_all
   three_size = omega arith
@@ -127,7 +124,7 @@ module _ {log t : List ℕ} {m : Mark} {first value second payload third : List 
   pub three_first : m.used.len + 8 + length first + length value + 0 ≤ length log
   three_first = omega (arith, three_size, all_room w q)
 
-  module _ (f : Found) (ef : placed f (rows log t m) ≡ place_by first (rows log t m)) (log₁ t₁ : List ℕ) (k : Mark)
+  module _ (f : Result Spot Spot) (ef : placed f (rows log t m) ≡ place_by first (rows log t m)) (log₁ t₁ : List ℕ) (k : Mark)
       (em : record { log = log₁; used = k.used.len; table = t₁; count = k.count }
       ≡ set_at (record { log = log; used = m.used.len; table = t; count = m.count }) (spot_place f) first (value ++ [])) where
     abbrev start : State
@@ -143,13 +140,13 @@ module _ {log t : List ℕ} {m : Mark} {first value second payload third : List 
     after_first = set_after log t m (spot_place f) first value log₁ t₁ k w.held (found_among log t first m f ef) (omega (arith, three_first)) first-set
 
     -- the places of the two others
-    pub three_behind : (key : List ℕ) (g : Found) → placed g (rows log t m) ≡ place_by key (rows log t m) → (m.count ≤ k.count) × (Among m.count (spot_place g))
+    pub three_behind : (key : List ℕ) (g : Result Spot Spot) → placed g (rows log t m) ≡ place_by key (rows log t m) → (m.count ≤ k.count) × (Among m.count (spot_place g))
     three_behind key g eg = (after_first.grows, found_among log t key m g eg)
 
-    up_there : (key : List ℕ) (g g' : Found) → placed g (rows log t m) ≡ place_by key (rows log t m) → spot_place g' ≡ up_by (k.count - m.count) (spot_place g) → Among k.count (spot_place g')
+    up_there : (key : List ℕ) (g g' : Result Spot Spot) → placed g (rows log t m) ≡ place_by key (rows log t m) → spot_place g' ≡ up_by (k.count - m.count) (spot_place g) → Among k.count (spot_place g')
     up_there key g g' eg e = rw e (up_among m.count k.count (spot_place g) after_first.grows (found_among log t key m g eg))
 
-    module _ (g g' : Found) (eg : placed g (rows log t m) ≡ place_by second (rows log t m)) (ug : spot_place g' ≡ up_by (k.count - m.count) (spot_place g)) where
+    module _ (g g' : Result Spot Spot) (eg : placed g (rows log t m) ≡ place_by second (rows log t m)) (ug : spot_place g' ≡ up_by (k.count - m.count) (spot_place g)) where
       pub three_second : (Held log₁ t₁ k) × (k.used.len + 8 + length second + length payload + 0 ≤ length log₁) × (Among k.count (spot_place g'))
       three_second = let z = after_first in (z.held, omega (arith, z.used, z.long, three_size, all_room w q), up_there second g g' eg ug)
 
@@ -165,7 +162,7 @@ module _ {log t : List ℕ} {m : Mark} {first value second payload third : List 
             let z = three_second in
             set_after log₁ t₁ k (spot_place g') second payload log₂ t₂ l z.0 z.2 (omega (arith, z.1)) second-set
 
-        module _ (h h' : Found) (eh : placed h (rows log t m) ≡ place_by third (rows log t m)) (uh : spot_place h' ≡ up_by (k.count - m.count) (spot_place h)) where
+        module _ (h h' : Result Spot Spot) (eh : placed h (rows log t m) ≡ place_by third (rows log t m)) (uh : spot_place h' ≡ up_by (k.count - m.count) (spot_place h)) where
           third_among : Among l.count (spot_place h')
           third_among = among-more k.count l.count (spot_place h') after-second.grows (up_there third h h' eh uh)
 
@@ -180,13 +177,13 @@ module _ {log t : List ℕ} {m : Mark} {first value second payload third : List 
             abbrev last : State
             last = record { log = log₃; used = n.used.len; table = t₃; count = n.count }
 
-            abbrev up₀ : State → Place → Place
+            abbrev up₀ : State → Result ℕ ℕ → Result ℕ ℕ
             up₀ z p = up_by (z.count - m.count) p
 
             last_set : last
                 ≡ set_at (set_at (set_at start (spot_place f) first value) (up₀ (set_at start (spot_place f) first value) (spot_place g)) second payload) (up₀ (set_at start (spot_place f) first value) (spot_place h)) third []
             last_set =
-                el ∙ (λ j. set_at (second-set j) (uh j) third []) ∙ ap (λ (p : Place). set_at (set_at one p second payload) (up₀ one (spot_place h)) third []) ug
+                el ∙ (λ j. set_at (second-set j) (uh j) third []) ∙ ap (λ (p : Result ℕ ℕ). set_at (set_at one p second payload) (up₀ one (spot_place h)) third []) ug
                 ∙ (λ j. set_at (set_at (first-set j) (up₀ (first-set j) (spot_place g)) second payload) (up₀ (first-set j) (spot_place h)) third [])
 
             one_log : one.log ≡ (appended start (set first value)).log
@@ -211,7 +208,7 @@ module _ {log t : List ℕ} {m : Mark} {first value second payload third : List 
                 (found_place log t second m g eg) (found_place log t third m h eh)
                 (record { agrees = g''; counted = w.counted }) w.held.small (omega (arith, three_size, all_room w q)) z.0 z.1 low high))
 
-            pub three_done : Appends log t m (three_of first value second payload third) (Change.Done n.used) log₃ t₃
+            pub three_done : Appends log t m (three_of first value second payload third) (Ok n.used) log₃ t₃
             unfolding appended_all
             three_done =
                 all_done w q last (sym (ap (λ (z : State). z.log) el ∙ same_log two (appended (appended start (set first value)) (set second payload)) (spot_place h') third [] two_log two_used))

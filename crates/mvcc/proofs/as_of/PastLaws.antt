@@ -2,11 +2,11 @@
 use Prim.Native.Nat.{ℕ, ◌≤◌, ◌<◌}
 use mathlib.Core.Path.{◌≡◌, refl, ap, ◌∙◌}
 use mathlib.Core.Bool.{Bool, true, false}
-use mathlib.Core.Option.{Option, none, some}
 use mathlib.Core.List.{List, []}
 use lib.Dec.{leb, eqb}
 use lib.ListN.{take}
 use borrow.Author.Tests.{le-leb, lt-leb}
+use Rattle.std.specs.Prelude.{Result, Ok, Err, Option, ℕ, Some, None}
 use Rattle.keycode.specs.Tests.{pick, if_done}
 use Rattle.keycode.specs.Refusals.{number_of}
 use Rattle.keycode.specs.key.Keys.{encode, txn_active_snapshot}
@@ -18,11 +18,7 @@ use Rattle.bitcask.specs.declared.request.Used.{Used}
 use Rattle.bitcask.specs.recovery.Map.{look_in}
 use Rattle.bitcask.specs.recovery.Recover.{map_of}
 use Rattle.bitcask.specs.declared.engine.mark.Mark.{Mark}
-use Rattle.bitcask.specs.declared.engine.mark.Entered.{Entered}
-use Rattle.bitcask.specs.declared.engine.mark.Entered.TheVariants as Entering
 use Rattle.bitcask.specs.declared.engine.spot.Spot.{Spot}
-use Rattle.bitcask.specs.declared.engine.spot.Found.{Found}
-use Rattle.bitcask.specs.declared.engine.spot.Found.TheVariants.{At, Absent}
 use Rattle.bitcask.specs.engine.Rows.{Row, rows}
 use Rattle.bitcask.specs.engine.Marks.{entered_by}
 use Rattle.bitcask.specs.engine.Spots.{row_at, placed, place_by, look_row, row_value}
@@ -30,8 +26,6 @@ use Rattle.bitcask.proofs.engine.LookLaws.{found_row, absent_row}
 use Rattle.bitcask.proofs.engine.SpotLaws.{in_fits, in_agreeing, refused_fits}
 use Rattle.keycode.specs.declared.code.Code.{Code}
 use Rattle.mvcc.specs.declared.handle.Handle.{Handle}
-use Rattle.mvcc.specs.declared.payload.VersionRead.{VersionRead}
-use Rattle.mvcc.specs.declared.payload.VersionRead.TheVariants.{Read, Bad}
 use Rattle.mvcc.specs.declared.payload.SetAnswer.{SetAnswer}
 use Rattle.mvcc.specs.declared.payload.SetAnswer.TheVariants as SetAnswers
 use Rattle.mvcc.specs.declared.payload.SetRead.{SetRead}
@@ -47,16 +41,16 @@ use Rattle.mvcc.proofs.snapshot.AgreedLaws.{look-agrees, next-agrees}
 
 -- ---- the snapshot
 
-module _ (rs : List Row) (v : ℕ) {c : Code} (w : Codes c (encode (txn_active_snapshot v))) (f : Found) (says : placed f rs ≡ place_by (take c.len c.bytes) rs)
+module _ (rs : List Row) (v : ℕ) {c : Code} (w : Codes c (encode (txn_active_snapshot v))) (f : Result Spot Spot) (says : placed f rs ≡ place_by (take c.len c.bytes) rs)
     {h : Handle} (eh : h ≡ handle_of v true []) (p : Spot) where
   stored_row : look_row (take c.len c.bytes) rs ≡ look_row (encode (txn_active_snapshot v)) rs
   stored_row = ap (λ (k : List ℕ). look_row k rs) w.says
 
-  pub stored_none : f ≡ Absent p → record { answer = SetAnswers.Fine; handle = h } ≡ snapshot_read v (row_value (look_row (encode (txn_active_snapshot v)) rs))
+  pub stored_none : f ≡ Err p → record { answer = SetAnswers.Fine; handle = h } ≡ snapshot_read v (row_value (look_row (encode (txn_active_snapshot v)) rs))
   unfolding snapshot_read
   stored_none e = rw (← stored_row, absent_row (take c.len c.bytes) rs says p e, eh)
 
-  pub stored_some : f ≡ At p → {b : List ℕ} {r : SetRead} → b ≡ (row_at p rs).value → r ≡ set_for h (set_in b) → r ≡ snapshot_read v (row_value (look_row (encode (txn_active_snapshot v)) rs))
+  pub stored_some : f ≡ Ok p → {b : List ℕ} {r : SetRead} → b ≡ (row_at p rs).value → r ≡ set_for h (set_in b) → r ≡ snapshot_read v (row_value (look_row (encode (txn_active_snapshot v)) rs))
   unfolding snapshot_read
   stored_some e eb er = rw (← stored_row, found_row (take c.len c.bytes) rs says p e, er, eb, eh)
 
@@ -64,8 +58,8 @@ module _ (rs : List Row) (v : ℕ) {c : Code} (w : Codes c (encode (txn_active_s
 
 set-number : (h : Handle) (o : Option (List ℕ)) (y : Refusal) → (set_for h o).answer ≡ SetAnswers.Refused y → eqb (number_of y) 13 ≡ false
 unfolding set_for
-set-number h none y e = let q : y ≡ BadStore = cc in rw q
-set-number h (some vs) y e = go (few_enough vs) (rising vs) e
+set-number h None y e = let q : y ≡ BadStore = cc in rw q
+set-number h (Some vs) y e = go (few_enough vs) (rising vs) e
   where
     go : (a b : Bool)
         → (pick a (pick b (record { answer = SetAnswers.Fine; handle = handle_of h.version h.read_only vs }) (refused_set BadStore)) (refused_set TooManyOpen)).answer ≡ SetAnswers.Refused y
@@ -76,8 +70,8 @@ set-number h (some vs) y e = go (few_enough vs) (rising vs) e
 
 read_number : (v : ℕ) (p : Option (List ℕ)) (y : Refusal) → (snapshot_read v p).answer ≡ SetAnswers.Refused y → eqb (number_of y) 13 ≡ false
 unfolding snapshot_read
-read_number v none y e = nope (cc)
-read_number v (some p) y e = set-number (handle_of v true []) (set_in p) y e
+read_number v None y e = nope (cc)
+read_number v (Some p) y e = set-number (handle_of v true []) (set_in p) y e
 
 abbrev Clear : Begun → Type 0
 Clear r = (r.handle ≡ if_done (begun_number r) r.handle blank_handle) × (eqb (begun_number r) 13 ≡ false)
@@ -86,9 +80,9 @@ clear_with : (used : ℕ) (a : SetAnswer) (h : Handle) → ((y : Refusal) → a 
 clear_with used SetAnswers.Fine h f = (refl, refl)
 clear_with used (SetAnswers.Refused y) h f = (refused_stays y blank_handle blank_handle, f y refl)
 
-clear : (used v : ℕ) (n : VersionRead) (p : Option (List ℕ)) → Clear (as_of_by used v n p)
-clear used v Bad p = (refl, refl)
-clear used v (Read n) p = go (leb n v)
+clear : (used v : ℕ) (n : Option ℕ) (p : Option (List ℕ)) → Clear (as_of_by used v n p)
+clear used v None p = (refl, refl)
+clear used v (Some n) p = go (leb n v)
   where
     go : (b : Bool) → Clear (pick b (refused_by NoSuchVersion) (as_of_with used (snapshot_read v p).answer (snapshot_read v p).handle))
     go true = (refl, refl)
@@ -96,14 +90,14 @@ clear used v (Read n) p = go (leb n v)
 
 -- ---- the promise
 
-module _ (log : List ℕ) (used : Used) (t : List ℕ) (v : ℕ) {a : Entered} (ea : a ≡ entered_by log used t) where
-  pub as_of_sizes : {r : Begun} (x : Refusal) → a ≡ Entering.Refused x → r ≡ refused_by x → BeginsAsOf log used.len t v r
+module _ (log : List ℕ) (used : Used) (t : List ℕ) (v : ℕ) {a : Result Mark Refusal} (ea : a ≡ entered_by log used t) where
+  pub as_of_sizes : {r : Begun} (x : Refusal) → a ≡ Err x → r ≡ refused_by x → BeginsAsOf log used.len t v r
   as_of_sizes {r} x e q =
       let w = refused_fits log used t a ea x e in
       let z : r ≡ refused_by BadRequest = q ∙ ap refused_by w.1 in
       rw z (record { blank = refl; bad = rw w.0; answer = λ g. nope (cc (g.sound, w.0)) })
 
-  module _ (m : Mark) (e : a ≡ Entering.In m) {x : VersionRead} (ex : x ≡ next_in (rows log t m)) where
+  module _ (m : Mark) (e : a ≡ Ok m) {x : Option ℕ} (ex : x ≡ next_in (rows log t m)) where
     abbrev stored : Option (List ℕ)
     stored = row_value (look_row (encode (txn_active_snapshot v)) (rows log t m))
 
@@ -120,10 +114,10 @@ module _ (log : List ℕ) (used : Used) (t : List ℕ) (v : ℕ) {a : Entered} (
               ∙ ap (λ (k : Mark). as_of_by used.len v (next_at (map_of log k.used.len)) (look_in (encode (txn_active_snapshot v)) (map_of log k.used.len))) f.1;
         })
 
-    pub as_of_bad : {r : Begun} → x ≡ Bad → r ≡ refused_by BadStore → BeginsAsOf log used.len t v r
+    pub as_of_bad : {r : Begun} → x ≡ None → r ≡ refused_by BadStore → BeginsAsOf log used.len t v r
     as_of_bad y q = as_of_made (q ∙ rw y)
 
-    module _ (n : ℕ) (y : x ≡ Read n) where
+    module _ (n : ℕ) (y : x ≡ Some n) where
       pub as_of_late : {r : Begun} → n ≤ v → r ≡ refused_by NoSuchVersion → BeginsAsOf log used.len t v r
       as_of_late h q = as_of_made (q ∙ rw (y, le-leb n v h))
 

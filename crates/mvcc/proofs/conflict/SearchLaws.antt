@@ -5,6 +5,7 @@ use mathlib.Core.Bool.{Bool, true, false}
 use mathlib.Core.List.{List, [], ◌∷◌, ◌++◌}
 use native.Mathlib.Omega.{arith}
 use lib.ListN.{length, take}
+use Rattle.std.specs.Prelude.{Result, ⊤, Ok, Err, Option, ℕ, Some, None}
 use Rattle.keycode.specs.Tests.{pick}
 use Rattle.keycode.specs.Limits.{max_key}
 use Rattle.keycode.specs.key.Keys.{encode, version, decode_why, forget}
@@ -13,19 +14,14 @@ use Rattle.keycode.specs.declared.refusal.Refusal.TheVariants.{Conflict, BadStor
 use Rattle.keycode.proofs.Basics.{nope}
 use Rattle.bitcask.specs.recovery.Map.{Pair, pairs_of}
 use Rattle.bitcask.specs.recovery.Recover.{map_of}
-use Rattle.bitcask.specs.declared.append.Check.{Check}
-use Rattle.bitcask.specs.declared.append.Check.TheVariants.{Fine, Refused}
 use Rattle.bitcask.specs.declared.answers.Bound.TheVariants.{Included}
 use Rattle.mvcc.specs.declared.handle.Handle.{Handle}
-use Rattle.mvcc.specs.declared.payload.VersionRead.{VersionRead}
-use Rattle.mvcc.specs.declared.payload.VersionRead.TheVariants.{Read, Bad as NoVersion}
 use Rattle.mvcc.specs.handle.Handles.{sees, lowest_of}
 use Rattle.mvcc.specs.version.Seen.{version_of}
 use Rattle.keycode.specs.declared.code.Code.{Code}
 use Rattle.keycode.specs.code.Codes.{Codes}
 use Rattle.bitcask.specs.declared.engine.mark.Mark.{Mark}
 use Rattle.bitcask.specs.declared.engine.spot.Spot.{Spot}
-use Rattle.bitcask.specs.declared.engine.walk.Near.{Near}
 use Rattle.bitcask.specs.engine.Rows.{Row, rows, pairs}
 use Rattle.bitcask.specs.engine.Marks.{Agreeing}
 use Rattle.bitcask.specs.engine.Spots.{rank, row_at, upto_rank}
@@ -37,17 +33,17 @@ use Rattle.mvcc.specs.conflict.Conflicts.{met_by, seen_bytes, search_by, low_key
 
 -- ---- one key
 
-module _ (h : Handle) (b : List ℕ) {got : VersionRead} (says : got ≡ version_of (forget (decode_why max_key b))) where
-  pub met_bad : got ≡ NoVersion → Refused BadStore ≡ seen_bytes h b
+module _ (h : Handle) (b : List ℕ) {got : Option ℕ} (says : got ≡ version_of (forget (decode_why max_key b))) where
+  pub met_bad : got ≡ None → Err BadStore ≡ seen_bytes h b
   unfolding seen_bytes
   met_bad e = rw (← says, e)
 
-  module _ (v : ℕ) (e : got ≡ Read v) {o : Bool} (eo : o ≡ sees h v) where
-    pub met_fine : o ≡ true → Fine ≡ seen_bytes h b
+  module _ (v : ℕ) (e : got ≡ Some v) {o : Bool} (eo : o ≡ sees h v) where
+    pub met_fine : o ≡ true → (Ok tt) ≡ seen_bytes h b
     unfolding seen_bytes
     met_fine t = rw (← says, e, ← eo, t)
 
-    pub met_other : o ≡ false → Refused Conflict ≡ seen_bytes h b
+    pub met_other : o ≡ false → Err Conflict ≡ seen_bytes h b
     unfolding seen_bytes
     met_other t = rw (← says, e, ← eo, t)
 
@@ -70,18 +66,18 @@ module _ (rs : List Row) (h : Handle) (key : List ℕ) {high low : Code} {n v : 
   unfolding unseen_rows
   unseen_is = sym (rw (wl.says, en, wh.says, ev))
 
-  module _ (r : Near) (says : near_rank r rs ≡ before_in Included (take low.len low.bytes) rs n) where
-    pub search_none : r ≡ Near.None → Fine ≡ search_by h (pairs (unseen_rows h key rs))
+  module _ (r : Option Spot) (says : near_rank r rs ≡ before_in Included (take low.len low.bytes) rs n) where
+    pub search_none : r ≡ None → (Ok tt) ≡ search_by h (pairs (unseen_rows h key rs))
     unfolding pairs search_by
     search_none e = rw (unseen_is, walk_over Included (take low.len low.bytes) rs n r says e)
 
-    module _ (p : Spot) (e : r ≡ Near.At p) where
+    module _ (p : Spot) (e : r ≡ Some p) where
       pub search_stands : rank p rs < length rs
       search_stands =
           let l : n ≤ length rs = end_within rs high en in
           omega (arith, (walk_on Included (take low.len low.bytes) rs n r says p e).0)
 
-      pub search_last : {k : List ℕ} {c : Check} → k ≡ (row_at p rs).key → c ≡ seen_bytes h k → c ≡ search_by h (pairs (unseen_rows h key rs))
+      pub search_last : {k : List ℕ} {c : Result ⊤ Refusal} → k ≡ (row_at p rs).key → c ≡ seen_bytes h k → c ≡ search_by h (pairs (unseen_rows h key rs))
       search_last ek ec =
           ec ∙ ap (seen_bytes h) ek ∙ sym (rw (unseen_is, (walk_on Included (take low.len low.bytes) rs n r says p e).1)
           (last_says h (down_from Included (take low.len low.bytes) rs (rank p rs)) (row_at p rs)))
@@ -101,19 +97,19 @@ pub data Found : Refusal → Type 0 where
   found_bad : Found BadStore
   found_unseen : Found Conflict
 
-bytes_refused : (h : Handle) (b : List ℕ) (r : Refusal) → seen_bytes h b ≡ Refused r → Found r
+bytes_refused : (h : Handle) (b : List ℕ) (r : Refusal) → seen_bytes h b ≡ Err r → Found r
 unfolding seen_bytes
 bytes_refused h b r e = go (version_of (forget (decode_why max_key b))) e
   where
-    by : (o : Bool) → pick o Fine (Refused Conflict) ≡ Refused r → Found r
+    by : (o : Bool) → ◌≡◌ {A = Result ⊤ Refusal} (pick o (Ok tt) (Err Conflict)) (Err r) → Found r
     by true f = nope (cc)
     by false f = let q : r ≡ Conflict = cc in rw q found_unseen
 
-    go : (d : VersionRead) → met_by h d ≡ Refused r → Found r
-    go NoVersion f = let q : r ≡ BadStore = cc in rw q found_bad
-    go (Read v) f = by (sees h v) f
+    go : (d : Option ℕ) → met_by h d ≡ Err r → Found r
+    go None f = let q : r ≡ BadStore = cc in rw q found_bad
+    go (Some v) f = by (sees h v) f
 
-pub search_refused : (h : Handle) (m : List Pair) (r : Refusal) → search_by h m ≡ Refused r → Found r
+pub search_refused : (h : Handle) (m : List Pair) (r : Refusal) → search_by h m ≡ Err r → Found r
 unfolding search_by
 search_refused h [] r e = nope (cc)
 search_refused h (q ∷ []) r e = bytes_refused h q.key r e

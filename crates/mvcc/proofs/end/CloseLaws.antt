@@ -7,15 +7,14 @@ use native.Mathlib.Decide.{dec_le}
 use native.Mathlib.Omega.{arith}
 use lib.ListN.{length, replicate}
 use borrow.Author.Tests.{le-leb, lt-leb}
+use Rattle.std.specs.Prelude.{Result, Ok, Err, Option, ℕ, Some, None}
+use Rattle.bitcask.specs.declared.request.Used.{Used}
+use Rattle.keycode.specs.declared.refusal.Refusal.{Refusal}
 use Rattle.keycode.specs.Buffer.{put}
 use Rattle.keycode.specs.Number.{be}
 use Rattle.keycode.specs.declared.refusal.Refusal.TheVariants.{LogFull}
 use Rattle.keycode.proofs.NumberLaws.{length-be}
 use Rattle.bitcask.specs.entry.Entry.{Entry, del}
-use Rattle.bitcask.specs.declared.request.Changed.{Changed}
-use Rattle.bitcask.specs.declared.request.Changed.TheVariants as Change
-use Rattle.bitcask.specs.declared.append.Room.{Room}
-use Rattle.bitcask.specs.declared.append.Room.TheVariants.{Left, Full}
 use Rattle.bitcask.specs.change.Append.{State, appended, room_after, size_all, append_answer}
 use Rattle.bitcask.specs.declared.engine.mark.Mark.{Mark}
 use Rattle.bitcask.specs.declared.engine.span.Span.{Span}
@@ -83,23 +82,23 @@ last-appended s es key room =
     sym (del_done (appended_all s es) key (omega (arith, last_size es key)) refl) ∙ sym (single (appended_all s es) key) ∙ sym (all_append s es (del key ∷ []))
 
 -- the room behind it
-pub last-room : (room : Room) (es : List Entry) (key : List ℕ) → room_after (room_all room es) (length key) 0 ≡ room_all room (es ++ (del key ∷ []))
+pub last-room : (room : Option ℕ) (es : List Entry) (key : List ℕ) → room_after (room_all room es) (length key) 0 ≡ room_all room (es ++ (del key ∷ []))
 last-room room es key = sym (room-append room es (del key ∷ []) ∙ unfold room_all in refl)
 
 module _ (log t : List ℕ) (m : Mark) (es : List Entry) (ns : List ℕ) where
   abbrev used : ℕ
   used = m.used.len
 
-  abbrev answer_of : Changed
+  abbrev answer_of : Result Used Refusal
   answer_of = append_answer log used (length t) es
 
-  pub closes_full : among 7 ns ≡ true → room_all (Left (length log - used)) es ≡ Full → Closes log t m es ns answer_of (Change.Refused LogFull) log t
+  pub closes_full : among 7 ns ≡ true → room_all (Some (length log - used)) es ≡ None → Closes log t m es ns answer_of (Err LogFull) log t
   closes_full n z = record { leaves = leaves_refused log used t es LogFull; numbers = n; answer = λ g. sym (dels_full log used t es g z) }
 
   -- where there is room, and under agreement the code has appended them
-  pub closes_done : among 0 ns ≡ true → m ≡ mark_of m.used t → Dels es → (x : ℕ) → room_all (Left (length log - used)) es ≡ Left x → (s : State) → Keeps (store_of log t m) s
+  pub closes_done : among 0 ns ≡ true → m ≡ mark_of m.used t → Dels es → (x : ℕ) → room_all (Some (length log - used)) es ≡ Some x → (s : State) → Keeps (store_of log t m) s
       → (Agreeing log t m → used + size_all es ≤ length log → s ≡ appended_all (store_of log t m) es)
-      → Closes log t m es ns answer_of (Change.Done (record { len = s.used })) s.log s.table
+      → Closes log t m es ns answer_of (Ok (record { len = s.used })) s.log s.table
   closes_done n em d x z s k f =
       let c = ap (λ (y : Mark). y.count) em in
       record {
@@ -108,8 +107,8 @@ module _ (log t : List ℕ) (m : Mark) (es : List Entry) (ns : List ℕ) where
         numbers = n;
         answer = λ g.
             let room = dels_room log used t es g x z in
-            ap (λ (y : State). Change.Done (record { len = y.used })) (f (record { agrees = g; count = c }) room)
-            ∙ ap (λ (k : ℕ). Change.Done (record { len = k })) (all-used (store_of log t m) es) ∙ sym (dels_done log used t es g d room);
+            ap (λ (y : State). Ok (record { len = y.used })) (f (record { agrees = g; count = c }) room)
+            ∙ ap (λ (k : ℕ). Ok (record { len = k })) (all-used (store_of log t m) es) ∙ sym (dels_done log used t es g d room);
       }
 
 -- ---- the rows of a span
@@ -138,14 +137,14 @@ module _ (log t : List ℕ) (m : Mark) (span : Span) (h : Held log t m) (k : ran
   rs = between span.from span.to (rows log t m)
 
   -- the room that the code finds is the list's
-  clear_room : {room left : Room} (key : List ℕ) → room ≡ room_tombs (Left (length log - m.used.len)) rs → left ≡ room_after room (length key) 0
-      → left ≡ room_all (Left (length log - m.used.len)) (tombstones rs ++ (del key ∷ []))
+  clear_room : {room left : Option ℕ} (key : List ℕ) → room ≡ room_tombs (Some (length log - m.used.len)) rs → left ≡ room_after room (length key) 0
+      → left ≡ room_all (Some (length log - m.used.len)) (tombstones rs ++ (del key ∷ []))
   clear_room key er el =
-      let free : Room = Left (length log - m.used.len) in
-      el ∙ ap (λ (r : Room). room_after r (length key) 0) (er ∙ room-rows free rs) ∙ last-room free (tombstones rs) key
+      let free : (Option ℕ) = Some (length log - m.used.len) in
+      el ∙ ap (λ (r : Option ℕ). room_after r (length key) 0) (er ∙ room-rows free rs) ∙ last-room free (tombstones rs) key
 
-  pub clear_full : {room left : Room} (key : List ℕ) → room ≡ room_tombs (Left (length log - m.used.len)) rs → left ≡ room_after room (length key) 0 → left ≡ Full
-      → Clears log t m rs key (Change.Refused LogFull) log t
+  pub clear_full : {room left : Option ℕ} (key : List ℕ) → room ≡ room_tombs (Some (length log - m.used.len)) rs → left ≡ room_after room (length key) 0 → left ≡ None
+      → Clears log t m rs key (Err LogFull) log t
   unfolding among clearing
   clear_full key er el z = closes_full log t m (tombstones rs ++ (del key ∷ [])) (0 ∷ 7 ∷ []) refl (sym (clear_room key er el) ∙ z)
 
@@ -160,8 +159,8 @@ module _ (log t : List ℕ) (m : Mark) (span : Span) (h : Held log t m) (k : ran
     unfolding between
     ended-all g room = e ∙ span-ended log t m g i j to-count room ∙ all_same (store_of log t m) (tombstones (rows_from i j (rows log t m)))
 
-    pub clear_done : {room left : Room} (key : List ℕ) → room ≡ room_tombs (Left (length log - m.used.len)) rs → left ≡ room_after room (length key) 0 → (x : ℕ) → left ≡ Left x
-        → m ≡ mark_of m.used t → {l : State} → l ≡ del_where (store_of log' t' mid) key → Clears log t m rs key (Change.Done (record { len = l.used })) l.log l.table
+    pub clear_done : {room left : Option ℕ} (key : List ℕ) → room ≡ room_tombs (Some (length log - m.used.len)) rs → left ≡ room_after room (length key) 0 → (x : ℕ) → left ≡ Some x
+        → m ≡ mark_of m.used t → {l : State} → l ≡ del_where (store_of log' t' mid) key → Clears log t m rs key (Ok (record { len = l.used })) l.log l.table
     unfolding among clearing
     clear_done key er el x z em {l} f =
         closes_done log t m (tombstones rs ++ (del key ∷ [])) (0 ∷ 7 ∷ []) refl em (unfold clearing in clearing_dels rs key) x (sym (clear_room key er el) ∙ z) l

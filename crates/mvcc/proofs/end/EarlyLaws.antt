@@ -6,6 +6,7 @@ use mathlib.Core.List.{List}
 use lib.Dec.{eqb}
 use lib.ListN.{length}
 use borrow.Author.Tests.{eqb-true}
+use Rattle.std.specs.Prelude.{Result, Ok, Err, ⊤}
 use Rattle.keycode.specs.Tests.{pick}
 use Rattle.keycode.specs.Refusals.{number_of}
 use Rattle.keycode.specs.declared.refusal.Refusal.{Refusal}
@@ -13,12 +14,8 @@ use Rattle.keycode.specs.declared.refusal.Refusal.TheVariants.{NotOpen, BadReque
 use Rattle.keycode.proofs.Basics.{nope}
 use Rattle.bitcask.specs.keydir.Place.{All, all_none, all_more}
 use Rattle.bitcask.specs.declared.request.Used.{Used}
-use Rattle.bitcask.specs.declared.request.Changed.{Changed}
-use Rattle.bitcask.specs.declared.request.Changed.TheVariants as Change
 use Rattle.bitcask.specs.recovery.Agree.{fit, Agrees}
 use Rattle.bitcask.specs.recovery.Promises.{changed_number}
-use Rattle.bitcask.specs.declared.append.Check.{Check}
-use Rattle.bitcask.specs.declared.append.Check.TheVariants.{Fine, Refused}
 use Rattle.bitcask.specs.engine.Marks.{mark_of}
 use Rattle.bitcask.specs.engine.Rows.{rows}
 use Rattle.bitcask.specs.engine.Spots.{has_row}
@@ -43,7 +40,7 @@ never_by : (fits sound active : Bool) → active ≡ false → pick fits (pick s
 never_by fits true active e = rw e
 never_by fits false active e = refl
 
-read_by : (fits sound active : Bool) (r : Refusal) → admit_by fits sound active ≡ Refused r → active ≡ true → pick fits sound false ≡ true → ⊥
+read_by : (fits sound active : Bool) (r : Refusal) → admit_by fits sound active ≡ Err r → active ≡ true → pick fits sound false ≡ true → ⊥
 unfolding admit_by
 read_by true true true r q e a = nope (cc)
 read_by true true false r q e a = nope (cc)
@@ -57,7 +54,7 @@ apart_by : {b : Bool} → b ≡ true → b ≡ false → ⊥
 apart_by e f = nope (cc)
 
 -- the numbers of the checks
-pub admit_numbers : (ns : List ℕ) → among 3 ns ≡ true → among 13 ns ≡ true → (fits sound active : Bool) (r : Refusal) → admit_by fits sound active ≡ Refused r → among (number_of r) ns ≡ true
+pub admit_numbers : (ns : List ℕ) → among 3 ns ≡ true → among 13 ns ≡ true → (fits sound active : Bool) (r : Refusal) → admit_by fits sound active ≡ Err r → among (number_of r) ns ≡ true
 unfolding admit_by
 admit_numbers ns a b true true true r e = nope (cc)
 admit_numbers ns a b true true false r e = let q : r ≡ NotOpen = cc in rw q a
@@ -72,27 +69,27 @@ module _ (log : List ℕ) (used : Used) (t : List ℕ) (h : Handle) where
   fits = fit (length log) used.len (length t)
 
   -- the checks as the code makes them
-  abbrev pub admitted : Check
+  abbrev pub admitted : Result ⊤ Refusal
   admitted = admit_by (fit (length log) used.len (length t)) (sound_handle h) (open_by h (has_row (active_key h) (rows log t (mark_of used t))))
 
   pub admit_map : Agrees log used.len t → admit_by (fit (length log) used.len (length t)) (sound_handle h) (open_in log used.len h) ≡ admitted
   admit_map g = rw (open_rows log used t h g)
 
-  pub early_refused : (r : Refusal) → admitted ≡ Refused r → Early log used.len t h (Change.Refused r) log t
+  pub early_refused : (r : Refusal) → admitted ≡ Err r → Early log used.len t h (Err r) log t
   early_refused r q =
       record {
-        bad = ap (λ (x : Check). eqb (check_number x) 13) (sym q) ∙ admit_bad fits (sound_handle h) (open_by h live);
-        never = λ o. ap (λ (x : Check). eqb (check_number x) 3) (sym q) ∙ admit_not_open fits (sound_handle h) (open_by h live) ∙ never_by fits (sound_handle h) (open_by h live) (open_never h live o);
+        bad = ap (λ (x : Result ⊤ Refusal). eqb (check_number x) 13) (sym q) ∙ admit_bad fits (sound_handle h) (open_by h live);
+        never = λ o. ap (λ (x : Result ⊤ Refusal). eqb (check_number x) 3) (sym q) ∙ admit_not_open fits (sound_handle h) (open_by h live) ∙ never_by fits (sound_handle h) (open_by h live) (open_never h live o);
         reads = λ p a. absurd (read_by fits (sound_handle h) (open_by h live) r q (sym (open_read h live p)) a);
       }
 
   -- a call that passes the checks
-  module _ (e : Fine ≡ admitted) where
+  module _ (e : (Ok tt) ≡ admitted) where
     fine : Admitted fits (sound_handle h) (open_by h live)
     fine = admit_fine fits (sound_handle h) (open_by h live) e
 
     -- 13 is not its answer, nor is 3 where no store has the handle open
-    early_by : (r : Changed) (log' t' : List ℕ) → eqb (changed_number r) 13 ≡ false → (h.read_only ≡ true → (r ≡ Change.Done used) × (log' ≡ log) × (t' ≡ t)) → Early log used.len t h r log' t'
+    early_by : (r : Result Used Refusal) (log' t' : List ℕ) → eqb (changed_number r) 13 ≡ false → (h.read_only ≡ true → (r ≡ Ok used) × (log' ≡ log) × (t' ≡ t)) → Early log used.len t h r log' t'
     early_by r log' t' z f =
         record {
           bad = z ∙ sym (not_asked fine.sizes fine.handle);
@@ -100,8 +97,8 @@ module _ (log : List ℕ) (used : Used) (t : List ℕ) (h : Handle) where
           reads = λ p a. f p;
         }
 
-    pub early-reads : Early log used.len t h (Change.Done used) log t
-    early-reads = early_by (Change.Done used) log t refl (λ p. (refl, refl, refl))
+    pub early-reads : Early log used.len t h (Ok used) log t
+    early-reads = early_by (Ok used) log t refl (λ p. (refl, refl, refl))
 
-    pub early-writes : h.read_only ≡ false → (r : Changed) (log' t' : List ℕ) → eqb (changed_number r) 13 ≡ false → Early log used.len t h r log' t'
+    pub early-writes : h.read_only ≡ false → (r : Result Used Refusal) (log' t' : List ℕ) → eqb (changed_number r) 13 ≡ false → Early log used.len t h r log' t'
     early-writes q r log' t' z = early_by r log' t' z (λ p. absurd (apart_by p q))

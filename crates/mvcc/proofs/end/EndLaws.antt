@@ -9,6 +9,7 @@ use native.Mathlib.Omega.{arith}
 use lib.Dec.{leb}
 use lib.ListN.{length}
 use borrow.Author.Tests.{le-leb, lt-leb, leb-true, leb-false}
+use Rattle.std.specs.Prelude.{Result, Ok, Err, Option, ℕ, Some, None}
 use Rattle.keycode.specs.Tests.{pick, if_done}
 use Rattle.keycode.specs.Buffer.{put}
 use Rattle.keycode.specs.declared.refusal.Refusal.{Refusal}
@@ -19,14 +20,10 @@ use Rattle.bitcask.specs.entry.Entry.{Entry, entry_key, entry_value}
 use Rattle.bitcask.specs.keydir.Slots.{slot_words}
 use Rattle.bitcask.specs.keydir.Place.{count_of}
 use Rattle.bitcask.specs.declared.request.Used.{Used}
-use Rattle.bitcask.specs.declared.request.Changed.{Changed}
-use Rattle.bitcask.specs.declared.request.Changed.TheVariants as Change
 use Rattle.bitcask.specs.recovery.Recover.{map_of}
 use Rattle.bitcask.specs.recovery.Agree.{Agrees}
 use Rattle.bitcask.specs.recovery.Promises.{changed_number}
 use Rattle.bitcask.proofs.recovery.AgreeLaws.{agrees-sound, agrees_unique}
-use Rattle.bitcask.specs.declared.append.Room.{Room}
-use Rattle.bitcask.specs.declared.append.Room.TheVariants.{Left, Full}
 use Rattle.bitcask.specs.change.Append.{State, room_after, size_all, bytes_all, after_all, append_answer}
 use Rattle.bitcask.specs.engine.Rows.{Row}
 use Rattle.bitcask.specs.engine.Endings.{tombstones, room_tombs}
@@ -41,11 +38,11 @@ use Rattle.mvcc.specs.end.Promises.{Leaves}
 
 -- ---- what is left
 
-done_len : {a : ℕ} {u : Used} → Change.Done (record { len = a }) ≡ Change.Done u → a ≡ u.len
+done_len : {a : ℕ} {u : Used} → ◌≡◌ {A = Result Used Refusal} (Ok (record { len = a })) (Ok u) → a ≡ u.len
 done_len {a} {u} e = let z : ◌≡◌ {A = Used} (record { len = a }) u = cc in ap (λ (y : Used). y.len) z
 
 module _ (log : List ℕ) (used : ℕ) (t : List ℕ) where
-  pub leaves_refused : (es : List Entry) (r : Refusal) → Leaves log used t es (Change.Refused r) log t
+  pub leaves_refused : (es : List Entry) (r : Refusal) → Leaves log used t es (Err r) log t
   leaves_refused es r =
       record {
         kept = refused_stays r log log;
@@ -64,7 +61,7 @@ module _ (log : List ℕ) (used : ℕ) (t : List ℕ) where
   unfolding size_all
   none_size = add-zero used
 
-  pub leaves_none : used ≤ length log → Leaves log used t [] (Change.Done (record { len = used })) log t
+  pub leaves_none : used ≤ length log → Leaves log used t [] (Ok (record { len = used })) log t
   leaves_none h =
       record {
         kept = refl;
@@ -77,7 +74,7 @@ module _ (log : List ℕ) (used : ℕ) (t : List ℕ) where
 
   -- a list appended by steps that keep what lies below
   pub leaves_done : (n : ℕ) (es : List Entry) (s : State) → Keeps (record { log = log; used = used; table = t; count = n }) s → (Agrees log used t → Appends log used t es s)
-      → Leaves log used t es (Change.Done (record { len = s.used })) s.log s.table
+      → Leaves log used t es (Ok (record { len = s.used })) s.log s.table
   leaves_done n es s k f =
       record {
         kept = refl;
@@ -89,7 +86,7 @@ module _ (log : List ℕ) (used : ℕ) (t : List ℕ) where
       }
 
 -- the entries matter where the table agrees alone
-pub leaves-plan : {log : List ℕ} {used : ℕ} {t : List ℕ} {es fs : List Entry} {r : Changed} {log' t' : List ℕ} → (Agrees log used t → fs ≡ es) → Leaves log used t es r log' t'
+pub leaves-plan : {log : List ℕ} {used : ℕ} {t : List ℕ} {es fs : List Entry} {r : Result Used Refusal} {log' t' : List ℕ} → (Agrees log used t → fs ≡ es) → Leaves log used t es r log' t'
     → Leaves log used t fs r log' t'
 leaves-plan {log} {used} {t} {r = r} {log' = log'} {t' = t'} f w =
     record {
@@ -102,9 +99,9 @@ leaves-plan {log} {used} {t} {r = r} {log' = log'} {t' = t'} f w =
     }
 
 -- under agreement two of them with one answer are one
-module _ {log : List ℕ} {used : ℕ} {t : List ℕ} {es : List Entry} {r r' : Changed} {l l' x x' : List ℕ} (same : r ≡ r') (w : Leaves log used t es r l x) (w' : Leaves log used t es r' l' x') (g : Agrees log used t) where
+module _ {log : List ℕ} {used : ℕ} {t : List ℕ} {es : List Entry} {r r' : Result Used Refusal} {l l' x x' : List ℕ} (same : r ≡ r') (w : Leaves log used t es r l x) (w' : Leaves log used t es r' l' x') (g : Agrees log used t) where
   pub leaves-log : l ≡ l'
-  leaves-log = w.bytes g ∙ ap (λ (y : Changed). if_done (changed_number y) (put log used (bytes_all es)) log) same ∙ sym (w'.bytes g)
+  leaves-log = w.bytes g ∙ ap (λ (y : Result Used Refusal). if_done (changed_number y) (put log used (bytes_all es)) log) same ∙ sym (w'.bytes g)
 
   pub leaves_table : x ≡ x'
   leaves_table = go (changed_number r) refl
@@ -121,29 +118,29 @@ module _ {log : List ℕ} {used : ℕ} {t : List ℕ} {es : List Entry} {r r' : 
 
 -- ---- the engine's rule, by the room that tombstones leave
 
-pub room-append : (room : Room) (es fs : List Entry) → room_all room (es ++ fs) ≡ room_all (room_all room es) fs
+pub room-append : (room : Option ℕ) (es fs : List Entry) → room_all room (es ++ fs) ≡ room_all (room_all room es) fs
 unfolding room_all
 room-append room [] fs = refl
 room-append room (e ∷ es) fs = room-append (room_after room (length (entry_key e)) (length (entry_value e))) es fs
 
 -- the room that the code finds for rows
-pub room-rows : (room : Room) (rs : List Row) → room_tombs room rs ≡ room_all room (tombstones rs)
+pub room-rows : (room : Option ℕ) (rs : List Row) → room_tombs room rs ≡ room_all room (tombstones rs)
 unfolding room_all room_tombs tombstones
 room-rows room [] = refl
 room-rows room (r ∷ rs) = room-rows (room_after room (length r.key) 0) rs
 
-room_by : (es : List Entry) (k : ℕ) (b : Bool) → leb (size_all es) k ≡ b → room_all (Left k) es ≡ pick b (Left (k - size_all es)) Full
+room_by : (es : List Entry) (k : ℕ) (b : Bool) → leb (size_all es) k ≡ b → room_all (Some k) es ≡ pick b (Some (k - size_all es)) None
 room_by es k b e = room-all k es ∙ rw e
 
 module _ (es : List Entry) (k : ℕ) where
-  left_room : (m : ℕ) → room_all (Left k) es ≡ Left m → size_all es ≤ k
+  left_room : (m : ℕ) → room_all (Some k) es ≡ Some m → size_all es ≤ k
   left_room m e = go (leb (size_all es) k) refl
     where
       go : (b : Bool) → leb (size_all es) k ≡ b → size_all es ≤ k
       go true p = leb-true (size_all es) k p
       go false p = nope (cc (e, room_by es k false p))
 
-  full-room : room_all (Left k) es ≡ Full → k < size_all es
+  full-room : room_all (Some k) es ≡ None → k < size_all es
   full-room e = go (leb (size_all es) k) refl
     where
       go : (b : Bool) → leb (size_all es) k ≡ b → k < size_all es
@@ -151,20 +148,20 @@ module _ (es : List Entry) (k : ℕ) where
       go false p = leb-false (size_all es) k p
 
 module _ (log : List ℕ) (used : ℕ) (t : List ℕ) (es : List Entry) (g : Agrees log used t) where
-  pub dels_room : (m : ℕ) → room_all (Left (length log - used)) es ≡ Left m → used + size_all es ≤ length log
+  pub dels_room : (m : ℕ) → room_all (Some (length log - used)) es ≡ Some m → used + size_all es ≤ length log
   dels_room m e = omega (arith, left_room es (length log - used) m e, (agrees-sound log used t g).within)
 
   -- tombstones leave no more keys than there were, so that 8 is never their answer
-  pub dels_done : Dels es → used + size_all es ≤ length log → append_answer log used (length t) es ≡ Change.Done (record { len = used + size_all es })
+  pub dels_done : Dels es → used + size_all es ≤ length log → append_answer log used (length t) es ≡ Ok (record { len = used + size_all es })
   unfolding append_answer
   dels_done d room =
       rw (le-leb (used + size_all es) (length log) room, le-leb (length (after_all es (map_of log used))) (length t / slot_words) (omega (arith, dels_shrink d (map_of log used), map-fits log used t es g (count_of t) refl)))
 
-  pub dels_full : room_all (Left (length log - used)) es ≡ Full → append_answer log used (length t) es ≡ Change.Refused LogFull
+  pub dels_full : room_all (Some (length log - used)) es ≡ None → append_answer log used (length t) es ≡ Err LogFull
   unfolding append_answer
   dels_full e = rw (lt-leb (used + size_all es) (length log) (omega (arith, full-room es (length log - used) e)))
 
 -- no entry is appended at once
-pub none_done : (log : List ℕ) (used : ℕ) (t : List ℕ) → Agrees log used t → append_answer log used (length t) [] ≡ Change.Done (record { len = used })
+pub none_done : (log : List ℕ) (used : ℕ) (t : List ℕ) → Agrees log used t → append_answer log used (length t) [] ≡ Ok (record { len = used })
 none_done log used t g =
-    dels_done log used t [] g dels_none (omega (arith, (agrees-sound log used t g).within, none_size log used t)) ∙ ap (λ (n : ℕ). Change.Done (record { len = n })) (none_size log used t)
+    dels_done log used t [] g dels_none (omega (arith, (agrees-sound log used t g).within, none_size log used t)) ∙ ap (λ (n : ℕ). Ok (record { len = n })) (none_size log used t)

@@ -6,6 +6,7 @@ use mathlib.Core.List.{List, [], ◌∷◌, ◌++◌}
 use native.Mathlib.Omega.{arith}
 use lib.Dec.{eqb}
 use lib.ListN.{length, take}
+use Rattle.std.specs.Prelude.{Result, Ok, Err, ⊤}
 use Rattle.keycode.specs.Tests.{pick}
 use Rattle.keycode.specs.declared.refusal.Refusal.{Refusal}
 use Rattle.keycode.specs.declared.refusal.Refusal.TheVariants.{BadStore}
@@ -15,13 +16,10 @@ use Rattle.keycode.proofs.NumberLaws.{Bytes}
 use Rattle.bitcask.specs.entry.Entry.{Entry, del}
 use Rattle.bitcask.specs.keydir.Place.{All, all_none, all_more}
 use Rattle.bitcask.specs.declared.request.Used.{Used}
-use Rattle.bitcask.specs.declared.request.Changed.{Changed}
-use Rattle.bitcask.specs.declared.request.Changed.TheVariants as Change
 use Rattle.bitcask.specs.recovery.Map.{Pair, pairs_of}
 use Rattle.bitcask.specs.recovery.Recover.{map_of}
 use Rattle.bitcask.specs.recovery.Agree.{fit, Agrees}
 use Rattle.bitcask.specs.recovery.Promises.{changed_number}
-use Rattle.bitcask.specs.declared.append.Check.{Check}
 use Rattle.bitcask.specs.change.Append.{append_answer}
 use Rattle.bitcask.specs.declared.engine.mark.Mark.{Mark}
 use Rattle.bitcask.specs.declared.engine.span.Span.{Span}
@@ -40,8 +38,6 @@ use Rattle.mvcc.specs.request.Checks.{active_key, open_by, admit_by, open_in, or
 use Rattle.mvcc.specs.delete_range.Plans.{cuts_of}
 use Rattle.mvcc.specs.undo.Plans.{undos_of, all_users}
 use Rattle.mvcc.specs.undo.Undo.{undoing, Undoes}
-use Rattle.mvcc.specs.declared.admission.Admitted.{Admitted}
-use Rattle.mvcc.specs.declared.admission.Admitted.TheVariants.{Fine, Refused}
 use Rattle.mvcc.specs.admission.Admits.{check_of, Admits}
 use Rattle.mvcc.proofs.admission.AdmitLaws.{fine_held, fine_agreeing}
 use Rattle.mvcc.specs.declared.end.Way.{Way}
@@ -54,11 +50,11 @@ use Rattle.mvcc.proofs.end.EarlyLaws.{among-all, admitted, admit_map, admit_numb
 
 -- ---- the public promises
 
-pub commits-so : {log : List ℕ} {used : ℕ} {t : List ℕ} {h : Handle} {r : Changed} {log' t' : List ℕ} → Ends Commit log used t h r log' t' → Commits log used t h r log' t'
+pub commits-so : {log : List ℕ} {used : ℕ} {t : List ℕ} {h : Handle} {r : Result Used Refusal} {log' t' : List ℕ} → Ends Commit log used t h r log' t' → Commits log used t h r log' t'
 unfolding commit_answer
 commits-so w = record { leaves = w.leaves; early = w.early; numbers = w.numbers; answer = w.answer }
 
-pub rolls_so : {log : List ℕ} {used : ℕ} {t : List ℕ} {h : Handle} {r : Changed} {log' t' : List ℕ} → Ends Rollback log used t h r log' t' → RollsBack log used t h r log' t'
+pub rolls_so : {log : List ℕ} {used : ℕ} {t : List ℕ} {h : Handle} {r : Result Used Refusal} {log' t' : List ℕ} → Ends Rollback log used t h r log' t' → RollsBack log used t h r log' t'
 unfolding rollback_answer
 rolls_so w = record { leaves = w.leaves; early = w.early; numbers = w.numbers; answer = w.answer }
 
@@ -85,11 +81,11 @@ unfolding commit_plan rollback_plan
 reads-plan Commit h m p = rw p
 reads-plan Rollback h m p = rw p
 
-reads-judged : (way : Way) (log : List ℕ) (used : ℕ) (t : List ℕ) (h : Handle) → h.read_only ≡ true → Agrees log used t → judged_of way log used (length t) h ≡ Change.Done (record { len = used })
+reads-judged : (way : Way) (log : List ℕ) (used : ℕ) (t : List ℕ) (h : Handle) → h.read_only ≡ true → Agrees log used t → judged_of way log used (length t) h ≡ Ok (record { len = used })
 unfolding undo_answer
 reads-judged Commit log used t h p g = ap (append_answer log used (length t)) (reads-plan Commit h (map_of log used) p) ∙ none_done log used t g
 reads-judged Rollback log used t h p g =
-    ap (λ (b : Bool). pick (pick b true (all_users (writes_of h.version (map_of log used)))) (append_answer log used (length t) (rollback_plan h (map_of log used))) (Change.Refused BadStore)) p
+    ap (λ (b : Bool). pick (pick b true (all_users (writes_of h.version (map_of log used)))) (append_answer log used (length t) (rollback_plan h (map_of log used))) (Err BadStore)) p
     ∙ ap (append_answer log used (length t)) (reads-plan Rollback h (map_of log used) p) ∙ none_done log used t g
 
 -- a number of what is done behind the checks: one of the way's, and not 13
@@ -111,7 +107,7 @@ tombs_cuts (r ∷ rs) = ap (λ (es : List Entry). del r.key ∷ es) (tombs_cuts 
 
 -- ---- the checks
 
-module _ (log : List ℕ) (used : Used) (t : List ℕ) (h : Handle) {x : Admitted} (w : Admits log used t h x) where
+module _ (log : List ℕ) (used : Used) (t : List ℕ) (h : Handle) {x : Result Mark Refusal} (w : Admits log used t h x) where
   abbrev live : Bool
   live = has_row (active_key h) (rows log t (mark_of used t))
 
@@ -123,11 +119,11 @@ module _ (log : List ℕ) (used : Used) (t : List ℕ) (h : Handle) {x : Admitte
 
   answer-is : (way : Way) → Agrees log used.len t
       → or_else (admit_by fits (sound_handle h) (open_in log used.len h)) (judged_of way log used.len (length t) h) ≡ or_else (check_of x) (judged_of way log used.len (length t) h)
-  answer-is way g = ap (λ (c : Check). or_else c (judged_of way log used.len (length t) h)) (admit_map log used t h g ∙ sym w.check)
+  answer-is way g = ap (λ (c : Result ⊤ Refusal). or_else c (judged_of way log used.len (length t) h)) (admit_map log used t h g ∙ sym w.check)
 
-  pub finish_refused : (way : Way) (r : Refusal) → x ≡ Refused r → Ends way log used.len t h (Change.Refused r) log t
+  pub finish_refused : (way : Way) (r : Refusal) → x ≡ Err r → Ends way log used.len t h (Err r) log t
   finish_refused way r q =
-      let a : admitted log used t h ≡ Check.Refused r = sym w.check ∙ ap check_of q in
+      let a : admitted log used t h ≡ Err r = sym w.check ∙ ap check_of q in
       record {
         leaves = leaves_refused log used.len t (plan_of way h map) r;
         early = early_refused log used t h r a;
@@ -135,8 +131,8 @@ module _ (log : List ℕ) (used : Used) (t : List ℕ) (h : Handle) {x : Admitte
         answer = λ g. sym (answer-is way g ∙ rw q);
       }
 
-  module _ (m : Mark) (e : x ≡ Fine m) where
-    fine : Check.Fine ≡ admitted log used t h
+  module _ (m : Mark) (e : x ≡ Ok m) where
+    fine : (Ok tt) ≡ admitted log used t h
     fine = sym (ap check_of e) ∙ w.check
 
     answer_fine : (way : Way) → Agrees log used.len t
@@ -149,7 +145,7 @@ module _ (log : List ℕ) (used : Used) (t : List ℕ) (h : Handle) {x : Admitte
     pub finish_mark : m ≡ mark_of m.used t
     finish_mark = w.mark m e ∙ sym (ap (λ (k : Mark). mark_of k.used t) (w.mark m e))
 
-    pub finish_reads : (way : Way) → h.read_only ≡ true → Ends way log used.len t h (Change.Done used) log t
+    pub finish_reads : (way : Way) → h.read_only ≡ true → Ends way log used.len t h (Ok used) log t
     finish_reads way p =
         record {
           leaves = leaves-plan (λ g. reads-plan way h map p) (leaves_none log used.len t (omega (arith, used-is, (fine_held log used t h w m e).within)));
@@ -161,7 +157,7 @@ module _ (log : List ℕ) (used : Used) (t : List ℕ) (h : Handle) {x : Admitte
     -- ---- behind them
 
     module _ (p : h.read_only ≡ false) where
-      finish_closed : (way : Way) {es : List Entry} {ns : List ℕ} {a r : Changed} {log' t' : List ℕ} → All (Late way) ns → (Agrees log used.len t → plan_of way h map ≡ es)
+      finish_closed : (way : Way) {es : List Entry} {ns : List ℕ} {a r : Result Used Refusal} {log' t' : List ℕ} → All (Late way) ns → (Agrees log used.len t → plan_of way h map ≡ es)
           → (Agrees log used.len t → judged_of way log used.len (length t) h ≡ a) → Closes log t m es ns a r log' t' → Ends way log used.len t h r log' t'
       finish_closed way {es} {ns} {a} {r} {log'} {t'} late plan judged c =
           let n = among-all late (changed_number r) c.numbers in
@@ -203,19 +199,19 @@ module _ (log : List ℕ) (used : Used) (t : List ℕ) (h : Handle) {x : Admitte
             ∙ ap (λ (c : List ℕ). undos_of h.version (pairs rs) ++ (del c ∷ [])) (sym wk.says))
 
         undo_judged : Agrees log used.len t
-            → undo_answer log used.len (length t) h ≡ pick (all_users (pairs rs)) (append_answer log m.used.len (length t) (undoing h.version rs key)) (Change.Refused BadStore)
+            → undo_answer log used.len (length t) h ≡ pick (all_users (pairs rs)) (append_answer log m.used.len (length t) (undoing h.version rs key)) (Err BadStore)
         unfolding undo_answer
         undo_judged g =
-            ap (λ (b : Bool). pick (pick b true (all_users (writes_of h.version map))) (append_answer log used.len (length t) (rollback_plan h map)) (Change.Refused BadStore)) p
-            ∙ ap (λ (ps : List Pair). pick (all_users ps) (append_answer log used.len (length t) (rollback_plan h map)) (Change.Refused BadStore)) (sym (writes_are g))
-            ∙ ap (λ (c : Changed). pick (all_users (pairs rs)) c (Change.Refused BadStore)) (ap (append_answer log used.len (length t)) (undo_plan g) ∙ judged-at (undoing h.version rs key))
+            ap (λ (b : Bool). pick (pick b true (all_users (writes_of h.version map))) (append_answer log used.len (length t) (rollback_plan h map)) (Err BadStore)) p
+            ∙ ap (λ (ps : List Pair). pick (all_users ps) (append_answer log used.len (length t) (rollback_plan h map)) (Err BadStore)) (sym (writes_are g))
+            ∙ ap (λ (c : Result Used Refusal). pick (all_users (pairs rs)) c (Err BadStore)) (ap (append_answer log used.len (length t)) (undo_plan g) ∙ judged-at (undoing h.version rs key))
 
-        at_way : {way to : Way} {r : Changed} {log' t' : List ℕ} → way ≡ to → Ends to log used.len t h r log' t' → Ends way log used.len t h r log' t'
+        at_way : {way to : Way} {r : Result Used Refusal} {log' t' : List ℕ} → way ≡ to → Ends to log used.len t h r log' t' → Ends way log used.len t h r log' t'
         at_way q v = rw q v
 
-        pub finish_clears : (way : Way) → way ≡ Commit → (r : Changed) (log' t' : List ℕ) → Clears log t m rs key r log' t' → Ends way log used.len t h r log' t'
+        pub finish_clears : (way : Way) → way ≡ Commit → (r : Result Used Refusal) (log' t' : List ℕ) → Clears log t m rs key r log' t' → Ends way log used.len t h r log' t'
         finish_clears way q r log' t' c =
             at_way q (finish_closed Commit late_clear clear_plan (λ g. ap (append_answer log used.len (length t)) (clear_plan g) ∙ judged-at (clearing rs key)) c)
 
-        pub finish_undoes : (way : Way) → way ≡ Rollback → (r : Changed) (log' t' : List ℕ) → Undoes log t m rs h.version key r log' t' → Ends way log used.len t h r log' t'
+        pub finish_undoes : (way : Way) → way ≡ Rollback → (r : Result Used Refusal) (log' t' : List ℕ) → Undoes log t m rs h.version key r log' t' → Ends way log used.len t h r log' t'
         finish_undoes way q r log' t' c = at_way q (finish_closed Rollback late_undo undo_plan undo_judged c)

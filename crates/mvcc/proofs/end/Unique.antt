@@ -2,12 +2,14 @@
 use Prim.Native.Nat.{ℕ}
 use mathlib.Core.Path.{◌≡◌, sym, ◌∙◌}
 use mathlib.Core.List.{List}
-use Rattle.bitcask.specs.declared.request.Changed.{Changed}
+use Rattle.std.specs.Prelude.{Result}
+use Rattle.bitcask.specs.declared.request.Used.{Used}
+use Rattle.keycode.specs.declared.refusal.Refusal.{Refusal}
 use Rattle.bitcask.specs.recovery.Agree.{Agrees}
 use Rattle.mvcc.specs.declared.handle.Handle.{Handle}
 use Rattle.mvcc.specs.end.Promises.{Commits}
 use Rattle.mvcc.proofs.end.EndLaws.{leaves-log, leaves_table}
 
-pub commit_unique : {log : List ℕ} {used : ℕ} {t : List ℕ} {h : Handle} {r r' : Changed} {l l' x x' : List ℕ} → Agrees log used t → Commits log used t h r l x → Commits log used t h r' l' x'
+pub commit_unique : {log : List ℕ} {used : ℕ} {t : List ℕ} {h : Handle} {r r' : Result Used Refusal} {l l' x x' : List ℕ} → Agrees log used t → Commits log used t h r l x → Commits log used t h r' l' x'
     → (r ≡ r') × (l ≡ l') × (x ≡ x')
 commit_unique g w w' = let e = w.answer g ∙ sym (w'.answer g) in (e, leaves-log e w.leaves w'.leaves g, leaves_table e w.leaves w'.leaves g)

@@ -3,12 +3,12 @@ use Prim.Native.Nat.{ℕ, zero, suc, ◌+◌, ◌-◌, ◌*◌, ◌/◌, ◌%◌
 use mathlib.Core.Path.{◌≡◌, refl, sym, ap, ◌∙◌}
 use mathlib.Core.Bool.{Bool, true, false}
 use mathlib.Core.List.{List, [], ◌∷◌, ◌++◌}
-use mathlib.Core.Option.{none, some}
 use native.Mathlib.Omega.{arith}
 use native.Mathlib.Numerals.{add-one}
 use lib.ListN.{length, take, drop, get_or, length-append, length-take, drop_of_length-le}
 use lib.Seq.{take_at, drop_at, drop-cons, drop-drop}
 use borrow.Author.Tests.{ne_eqb, le-leb, lt-leb}
+use Rattle.std.specs.Prelude.{Some, None}
 use Rattle.keycode.specs.Limits.{max_open}
 use Rattle.keycode.specs.Number.{be, num}
 use Rattle.keycode.specs.Buffer.{put}
@@ -18,7 +18,6 @@ use Rattle.keycode.proofs.Basics.{nope}
 use Rattle.keycode.proofs.NumberLaws.{num-be, length-be}
 use Rattle.keycode.proofs.BufferLaws.{Laying, lay-front, lay-more, lay_end, lay-room}
 use Rattle.mvcc.specs.declared.handle.Handle.{Handle}
-use Rattle.mvcc.specs.declared.payload.VersionRead.TheVariants.{Read, Bad as BadVersion}
 use Rattle.mvcc.specs.declared.payload.ValueRead.TheVariants.{Value, Gone, Bad}
 use Rattle.mvcc.specs.declared.payload.SetAnswer.TheVariants.{Fine, Refused}
 use Rattle.mvcc.specs.declared.payload.SetRead.{SetRead}
@@ -48,17 +47,17 @@ first_reads = record {
       let q : length (set_bytes vs) / 8 ≡ length vs = omega arith in
       let m : length (set_bytes vs) % 8 ≡ 0 = omega arith in
       rw (m, q, versions-back vs b);
-  value = λ v. elim v as (λ k. value_at (first.write_value k) (first.read_value (first.write_value k)) ≡ some k) [ some x ↦ refl | none ↦ refl ];
+  value = λ v. elim v as (λ k. value_at (first.write_value k) (first.read_value (first.write_value k)) ≡ Some k) [ Some x ↦ refl | None ↦ refl ];
 }
 
 -- ---- one version, one value
 
 module _ (b : List ℕ) where
-  pub version-bad : (length b ≡ 8 → ⊥) → BadVersion ≡ version_in b
+  pub version-bad : (length b ≡ 8 → ⊥) → None ≡ version_in b
   unfolding version_in
   version-bad h = rw (ne_eqb (length b) 8 h)
 
-  pub version_read : (v : ℕ) → length b ≡ 8 → v ≡ num b → Read v ≡ version_in b
+  pub version_read : (v : ℕ) → length b ≡ 8 → v ≡ num b → Some v ≡ version_in b
   unfolding version_in
   version_read v h e = rw (e, h)
 
@@ -141,7 +140,7 @@ module _ (b : List ℕ) (h : Handle) where
   set_odd k e = e ∙ rw (ne_eqb (length b % 8) 0 k)
 
   module _ (whole : length b % 8 ≡ 0) where
-    set-whole : set_for h (set_in b) ≡ set_for h (some (versions_of (length b / 8) b))
+    set-whole : set_for h (set_in b) ≡ set_for h (Some (versions_of (length b / 8) b))
     unfolding set_in
     set-whole = rw whole
 

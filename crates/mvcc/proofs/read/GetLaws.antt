@@ -6,14 +6,14 @@ use mathlib.Core.List.{List}
 use lib.Dec.{leb, eqb}
 use lib.ListN.{length}
 use borrow.Author.Tests.{le-leb, lt-leb}
+use Rattle.std.specs.Prelude.{Result, Ok, Err}
+use Rattle.keycode.specs.declared.parts.Part.{Part}
 use Rattle.keycode.specs.Tests.{pick}
 use Rattle.keycode.specs.Limits.{max_key}
 use Rattle.keycode.specs.declared.refusal.Refusal.{Refusal}
 use Rattle.keycode.specs.declared.refusal.Refusal.TheVariants.{KeyTooLong}
 use Rattle.bitcask.specs.declared.request.Used.{Used}
 use Rattle.bitcask.specs.recovery.Agree.{fit}
-use Rattle.bitcask.specs.declared.answers.Located.{Located}
-use Rattle.bitcask.specs.declared.answers.Located.TheVariants as Got
 use Rattle.bitcask.specs.read.Promises.{located_number}
 use Rattle.bitcask.specs.declared.engine.mark.Mark.{Mark}
 use Rattle.bitcask.specs.engine.Rows.{rows}
@@ -27,8 +27,6 @@ use Rattle.mvcc.specs.declared.version.Seen.{Seen}
 use Rattle.mvcc.specs.declared.version.Seen.TheVariants.{Hidden, Gone, Bad, Value}
 use Rattle.mvcc.specs.version.Seen.{located_seen}
 use Rattle.mvcc.specs.read.Promises.{checked, get_answer, Gets}
-use Rattle.mvcc.specs.declared.admission.Admitted.{Admitted}
-use Rattle.mvcc.specs.declared.admission.Admitted.TheVariants.{Fine, Refused}
 use Rattle.mvcc.specs.admission.Admits.{Admits}
 use Rattle.mvcc.specs.version.Seen.{last_rows, version_rows}
 use Rattle.mvcc.proofs.admission.AdmitLaws.{open_rows, fine_rows}
@@ -36,7 +34,7 @@ use Rattle.mvcc.proofs.version.SeenLaws.{versions_agree}
 
 -- ---- the numbers of an answer that comes behind the checks
 
-module _ (l : Located) where
+module _ (l : Result Part Refusal) where
   checked-bad : (fits sound active : Bool) → eqb (located_number l) 13 ≡ false → eqb (located_number (checked (admit_by fits sound active) l)) 13 ≡ not (pick fits sound false)
   unfolding admit_by
   checked-bad true true true e = e
@@ -70,15 +68,15 @@ seen_number Bad n a b c = c
 seen_number (Value p) n a b c = a
 
 module _ (s : Seen) where
-  within-bad : (b : Bool) → eqb (located_number (pick b (located_seen s) (Got.Refused KeyTooLong))) 13 ≡ false
+  within-bad : (b : Bool) → eqb (located_number (pick b (located_seen s) (Err KeyTooLong))) 13 ≡ false
   within-bad true = seen_number s 13 refl refl refl
   within-bad false = refl
 
-  within_open : (b : Bool) → eqb (located_number (pick b (located_seen s) (Got.Refused KeyTooLong))) 3 ≡ false
+  within_open : (b : Bool) → eqb (located_number (pick b (located_seen s) (Err KeyTooLong))) 3 ≡ false
   within_open true = seen_number s 3 refl refl refl
   within_open false = refl
 
-  within-long : (b : Bool) → eqb (located_number (pick b (located_seen s) (Got.Refused KeyTooLong))) 4 ≡ not b
+  within-long : (b : Bool) → eqb (located_number (pick b (located_seen s) (Err KeyTooLong))) 4 ≡ not b
   within-long true = seen_number s 4 refl refl refl
   within-long false = refl
 
@@ -92,35 +90,35 @@ module _ (log : List ℕ) (used : Used) (t : List ℕ) (h : Handle) (key : List 
   abbrev said : Seen
   said = last_rows h (version_rows key h.version (rows log t (mark_of used t)))
 
-  abbrev got : Located
-  got = checked (admit_by (fit (length log) used.len (length t)) (sound_handle h) active) (pick (leb (length key) max_key) (located_seen said) (Got.Refused KeyTooLong))
+  abbrev got : Result Part Refusal
+  got = checked (admit_by (fit (length log) used.len (length t)) (sound_handle h) active) (pick (leb (length key) max_key) (located_seen said) (Err KeyTooLong))
 
-  gets-keep : {r : Located} → r ≡ got → Gets log used.len t h key r
+  gets-keep : {r : Result Part Refusal} → r ≡ got → Gets log used.len t h key r
   unfolding get_answer
   gets-keep e =
       let f : Bool = fit (length log) used.len (length t) in
       let live : Bool = has_row (active_key h) (rows log t (mark_of used t)) in
       let s : Seen = said in
       let b : Bool = leb (length key) max_key in
-      let l : Located = pick b (located_seen s) (Got.Refused KeyTooLong) in
+      let l : (Result Part Refusal) = pick b (located_seen s) (Err KeyTooLong) in
       record {
-        bad = ap (λ (x : Located). eqb (located_number x) 13) e ∙ checked-bad l f (sound_handle h) (open_by h live) (within-bad s b);
-        never = λ q. ap (λ (x : Located). eqb (located_number x) 3) e ∙ rw (open_never h live q) (checked-never l f (sound_handle h));
-        ever = λ q. ap (λ (x : Located). eqb (located_number x) 3) e ∙ rw (open_ever h live q) (checked-ever l f (sound_handle h) (within_open s b));
-        long = λ q. ap (λ (x : Located). eqb (located_number x) 4) e ∙ rw (open_ever h live q) (checked-long l f (sound_handle h) (not b) (within-long s b));
+        bad = ap (λ (x : Result Part Refusal). eqb (located_number x) 13) e ∙ checked-bad l f (sound_handle h) (open_by h live) (within-bad s b);
+        never = λ q. ap (λ (x : Result Part Refusal). eqb (located_number x) 3) e ∙ rw (open_never h live q) (checked-never l f (sound_handle h));
+        ever = λ q. ap (λ (x : Result Part Refusal). eqb (located_number x) 3) e ∙ rw (open_ever h live q) (checked-ever l f (sound_handle h) (within_open s b));
+        long = λ q. ap (λ (x : Result Part Refusal). eqb (located_number x) 4) e ∙ rw (open_ever h live q) (checked-long l f (sound_handle h) (not b) (within-long s b));
         answer = λ g.
             let w : Agreeing log t (mark_of used t) = record { agrees = g; count = refl } in
             e ∙ rw (open_rows log used t h g, versions_agree log t (mark_of used t) h key h.version w);
       }
 
-  module _ {a : Admitted} (w : Admits log used t h a) where
-    pub get_refused : (r : Refusal) → a ≡ Refused r → Gets log used.len t h key (Got.Refused r)
+  module _ {a : Result Mark Refusal} (w : Admits log used t h a) where
+    pub get_refused : (r : Refusal) → a ≡ Err r → Gets log used.len t h key (Err r)
     get_refused r e = gets-keep (rw (← w.check, e))
 
-    module _ (m : Mark) (e : a ≡ Fine m) where
-      pub get_long : max_key < length key → Gets log used.len t h key (Got.Refused KeyTooLong)
+    module _ (m : Mark) (e : a ≡ Ok m) where
+      pub get_long : max_key < length key → Gets log used.len t h key (Err KeyTooLong)
       get_long k = gets-keep (rw (← w.check, e, lt-leb (length key) max_key k))
 
-      pub get_seen : length key ≤ max_key → {s : Seen} {r : Located} → s ≡ last_rows h (version_rows key h.version (rows log t m)) → r ≡ located_seen s → Gets log used.len t h key r
+      pub get_seen : length key ≤ max_key → {s : Seen} {r : Result Part Refusal} → s ≡ last_rows h (version_rows key h.version (rows log t m)) → r ≡ located_seen s → Gets log used.len t h key r
       get_seen k es er =
           gets-keep (rw (← w.check, e, le-leb (length key) max_key k, ← fine_rows log used t h w m e) (er ∙ ap located_seen es))

@@ -5,14 +5,13 @@ use mathlib.Core.Bool.{Bool, true, false, not}
 use mathlib.Core.List.{List}
 use lib.Dec.{eqb}
 use lib.ListN.{length}
+use Rattle.std.specs.Prelude.{Ok, Err, Result, ⊤}
 use Rattle.keycode.specs.Tests.{pick, if_done}
 use Rattle.keycode.specs.declared.refusal.Refusal.{Refusal}
 use Rattle.keycode.proofs.Basics.{nope}
 use Rattle.bitcask.specs.declared.request.Used.{Used}
-use Rattle.bitcask.specs.declared.request.Changed.TheVariants as Change
 use Rattle.bitcask.specs.recovery.Agree.{fit}
 use Rattle.bitcask.specs.recovery.Promises.{changed_number}
-use Rattle.bitcask.specs.declared.append.Check.{Check}
 use Rattle.bitcask.specs.declared.engine.mark.Mark.{Mark}
 use Rattle.bitcask.specs.engine.Marks.{mark_of}
 use Rattle.bitcask.specs.engine.Rows.{rows}
@@ -22,8 +21,6 @@ use Rattle.mvcc.specs.handle.Handles.{sound_handle, blank_handle}
 use Rattle.mvcc.specs.request.Checks.{active_key, open_by, admit_by}
 use Rattle.mvcc.proofs.request.CheckLaws.{open_never, open_ever}
 use Rattle.mvcc.specs.declared.begun.Begun.{Begun}
-use Rattle.mvcc.specs.declared.admission.Admitted.{Admitted}
-use Rattle.mvcc.specs.declared.admission.Admitted.TheVariants.{Fine, Refused}
 use Rattle.mvcc.specs.admission.Admits.{check_of, Admits}
 use Rattle.mvcc.proofs.admission.AdmitLaws.{open_rows}
 use Rattle.mvcc.specs.read.Promises.{resumed_by, resume_answer, Resumes}
@@ -39,7 +36,7 @@ module _ (used : ℕ) (h : Handle) where
   handle_by false sound active = refl
 
   stays_by : (fits sound active : Bool) → changed_number (resumed_by (admit_by fits sound active) used h).answer ≡ 0
-      → (resumed_by (admit_by fits sound active) used h).answer ≡ Change.Done (record { len = used })
+      → (resumed_by (admit_by fits sound active) used h).answer ≡ Ok (record { len = used })
   unfolding admit_by
   stays_by true true true e = refl
   stays_by true true false e = nope (cc)
@@ -67,14 +64,14 @@ module _ (used : ℕ) (h : Handle) where
 
 -- ---- the promise
 
-module _ (log : List ℕ) (used : Used) (t : List ℕ) (h : Handle) {a : Admitted} (w : Admits log used t h a) where
+module _ (log : List ℕ) (used : Used) (t : List ℕ) (h : Handle) {a : Result Mark Refusal} (w : Admits log used t h a) where
   keeps : {r : Begun} → r ≡ resumed_by (check_of a) used.len h → Resumes log used.len t h r
   unfolding resume_answer
   keeps {r} e =
       let f : Bool = fit (length log) used.len (length t) in
       let g : Bool = sound_handle h in
       let live : Bool = has_row (active_key h) (rows log t (mark_of used t)) in
-      let q : r ≡ resumed_by (admit_by f g (open_by h live)) used.len h = e ∙ ap (λ (x : Check). resumed_by x used.len h) w.check in
+      let q : r ≡ resumed_by (admit_by f g (open_by h live)) used.len h = e ∙ ap (λ (x : Result ⊤ Refusal). resumed_by x used.len h) w.check in
       record {
         handle = rw q (handle_by used.len h f g (open_by h live));
         stays = rw q (stays_by used.len h f g (open_by h live));
@@ -84,8 +81,8 @@ module _ (log : List ℕ) (used : Used) (t : List ℕ) (h : Handle) {a : Admitte
         answer = λ z. q ∙ rw (open_rows log used t h z);
       }
 
-  pub resume_refused : (r : Refusal) (b : Handle) → a ≡ Refused r → b ≡ blank_handle → Resumes log used.len t h (record { answer = Change.Refused r; handle = b })
+  pub resume_refused : (r : Refusal) (b : Handle) → a ≡ Err r → b ≡ blank_handle → Resumes log used.len t h (record { answer = Err r; handle = b })
   resume_refused r b e eb = keeps (rw (e, eb))
 
-  pub resume_done : (m : Mark) → a ≡ Fine m → Resumes log used.len t h (record { answer = Change.Done used; handle = h })
+  pub resume_done : (m : Mark) → a ≡ Ok m → Resumes log used.len t h (record { answer = Ok used; handle = h })
   resume_done m e = keeps (rw e)

@@ -2,11 +2,12 @@
 use Prim.Native.Nat.{ℕ, ◌+◌, ◌-◌}
 use mathlib.Core.Path.{◌≡◌, refl, sym, ap, ◌∙◌}
 use mathlib.Core.Bool.{Bool, true, false}
-use mathlib.Core.Option.{Option, none, some}
 use mathlib.Core.List.{List}
 use lib.Dec.{leb}
 use lib.ListN.{length, take, drop}
 use lib.Seq.{drop-drop}
+use Rattle.std.specs.Prelude.{Result, Ok, Err, Option, ℕ, Some, None}
+use Rattle.keycode.specs.declared.refusal.Refusal.{Refusal}
 use Rattle.keycode.specs.Tests.{pick}
 use Rattle.keycode.specs.Limits.{max_key}
 use Rattle.keycode.specs.key.Keys.{decode_why, forget}
@@ -17,15 +18,11 @@ use Rattle.bitcask.specs.keydir.Place.{All, all_none, all_more}
 use Rattle.bitcask.specs.recovery.Map.{pairs_of}
 use Rattle.bitcask.specs.recovery.Recover.{map_of}
 use Rattle.bitcask.specs.recovery.Agree.{fit, Agrees}
-use Rattle.bitcask.specs.declared.answers.Located.{Located}
-use Rattle.bitcask.specs.declared.answers.Located.TheVariants as Got
 use Rattle.bitcask.specs.engine.Rows.{Row, value_place, pairs, rows_in, Stands}
 use Rattle.bitcask.specs.engine.Ranges.{keep_rows}
 use Rattle.bitcask.proofs.engine.RowLaws.{in_stand}
 use Rattle.bitcask.proofs.engine.RangeLaws.{keep_in, keep_all}
 use Rattle.mvcc.specs.declared.handle.Handle.{Handle}
-use Rattle.mvcc.specs.declared.payload.VersionRead.{VersionRead}
-use Rattle.mvcc.specs.declared.payload.VersionRead.TheVariants.{Read, Bad as NoVersion}
 use Rattle.mvcc.specs.declared.payload.ValueRead.{ValueRead}
 use Rattle.mvcc.specs.declared.payload.ValueRead.TheVariants as Payload
 use Rattle.mvcc.specs.handle.Handles.{sees, sound_handle}
@@ -41,15 +38,15 @@ use Rattle.mvcc.specs.read.Promises.{checked, get_answer, Gets}
 
 -- the bytes at the place that a walk found
 abbrev shown_by : List ℕ → Seen → Option (Option (Option (List ℕ)))
-shown_by log Hidden = none
-shown_by log Gone = some (some none)
-shown_by log Bad = some none
-shown_by log (Value p) = some (some (some (take p.len (drop p.at log))))
+shown_by log Hidden = None
+shown_by log Gone = Some (Some None)
+shown_by log Bad = Some None
+shown_by log (Value p) = Some (Some (Some (take p.len (drop p.at log))))
 
 module _ (h : Handle) (log : List ℕ) where
-  value-view : (r : Row) → Stands log r → (v : ValueRead) → shown_by log (says_by (value_place r) v) ≡ some (value_at r.value v)
+  value-view : (r : Row) → Stands log r → (v : ValueRead) → shown_by log (says_by (value_place r) v) ≡ Some (value_at r.value v)
   value-view r w (Payload.Value k) =
-      ap (λ (x : List ℕ). some (some (some x)))
+      ap (λ (x : List ℕ). Some (Some (Some x)))
       (ap (take (length r.value - k)) (sym (drop-drop k (r.at + length r.key) log)) ∙ drop-take k (length r.value) (drop (r.at + length r.key) log)
       ∙ ap (drop k) w.value)
   value-view r w Payload.Gone = refl
@@ -59,13 +56,13 @@ module _ (h : Handle) (log : List ℕ) where
   unfolding seen_row pair_says row_says
   seen_view r w = go (version_of (forget (decode_why max_key r.key)))
     where
-      by : (b : Bool) → shown_by log (pick b (says_by (value_place r) (value_in r.value)) Hidden) ≡ pick b (some (value_at r.value (value_in r.value))) none
+      by : (b : Bool) → shown_by log (pick b (says_by (value_place r) (value_in r.value)) Hidden) ≡ pick b (Some (value_at r.value (value_in r.value))) None
       by true = value-view r w (value_in r.value)
       by false = refl
 
-      go : (v : VersionRead) → shown_by log (seen_by h (says_by (value_place r) (value_in r.value)) v) ≡ pair_by h (value_at r.value (value_in r.value)) v
-      go NoVersion = refl
-      go (Read v) = by (sees h v)
+      go : (v : Option ℕ) → shown_by log (seen_by h (says_by (value_place r) (value_in r.value)) v) ≡ pair_by h (value_at r.value (value_in r.value)) v
+      go None = refl
+      go (Some v) = by (sees h v)
 
   or_view : (a b : Seen) → shown_by log (or_else a b) ≡ or_pair (shown_by log a) (shown_by log b)
   or_view Hidden b = refl
@@ -81,12 +78,12 @@ module _ (h : Handle) (log : List ℕ) where
 -- ---- answers taken back to what the walk found
 
 module _ (log : List ℕ) (s : Seen) where
-  told_at : (f g o b : Bool) (p : Part) → checked (admit_by f g o) (pick b (located_seen s) (Got.Refused KeyTooLong)) ≡ Got.At p
-      → or_gone (shown_by log s) ≡ some (some (take p.len (drop p.at log)))
+  told_at : (f g o b : Bool) (p : Part) → checked (admit_by f g o) (pick b (located_seen s) (Err KeyTooLong)) ≡ Ok p
+      → or_gone (shown_by log s) ≡ Some (Some (take p.len (drop p.at log)))
   unfolding admit_by
   told_at true true true true p e = go s e
     where
-      go : (x : Seen) → located_seen x ≡ Got.At p → or_gone (shown_by log x) ≡ some (some (take p.len (drop p.at log)))
+      go : (x : Seen) → located_seen x ≡ Ok p → or_gone (shown_by log x) ≡ Some (Some (take p.len (drop p.at log)))
       go Hidden q = nope (cc)
       go Gone q = nope (cc)
       go Bad q = nope (cc)
@@ -96,11 +93,11 @@ module _ (log : List ℕ) (s : Seen) where
   told_at true false o b p e = nope (cc)
   told_at false g o b p e = nope (cc)
 
-  told_absent : (f g o b : Bool) → checked (admit_by f g o) (pick b (located_seen s) (Got.Refused KeyTooLong)) ≡ Got.Refused Absent → or_gone (shown_by log s) ≡ some none
+  told_absent : (f g o b : Bool) → checked (admit_by f g o) (pick b (located_seen s) (Err KeyTooLong)) ≡ Err Absent → or_gone (shown_by log s) ≡ Some None
   unfolding admit_by
   told_absent true true true true e = go s e
     where
-      go : (x : Seen) → located_seen x ≡ Got.Refused Absent → or_gone (shown_by log x) ≡ some none
+      go : (x : Seen) → located_seen x ≡ Err Absent → or_gone (shown_by log x) ≡ Some None
       go Hidden q = refl
       go Gone q = refl
       go Bad q = nope (cc)
@@ -110,11 +107,11 @@ module _ (log : List ℕ) (s : Seen) where
   told_absent true false o b e = nope (cc)
   told_absent false g o b e = nope (cc)
 
-  told-bad : (f g o b : Bool) → checked (admit_by f g o) (pick b (located_seen s) (Got.Refused KeyTooLong)) ≡ Got.Refused BadStore → or_gone (shown_by log s) ≡ none
+  told-bad : (f g o b : Bool) → checked (admit_by f g o) (pick b (located_seen s) (Err KeyTooLong)) ≡ Err BadStore → or_gone (shown_by log s) ≡ None
   unfolding admit_by
   told-bad true true true true e = go s e
     where
-      go : (x : Seen) → located_seen x ≡ Got.Refused BadStore → or_gone (shown_by log x) ≡ none
+      go : (x : Seen) → located_seen x ≡ Err BadStore → or_gone (shown_by log x) ≡ None
       go Hidden q = nope (cc)
       go Gone q = nope (cc)
       go Bad q = refl
@@ -126,7 +123,7 @@ module _ (log : List ℕ) (s : Seen) where
 
 -- ---- get
 
-module _ {log : List ℕ} {used : ℕ} {t : List ℕ} {h : Handle} {key : List ℕ} {r : Located} (a : Agrees log used t) (w : Gets log used t h key r) where
+module _ {log : List ℕ} {used : ℕ} {t : List ℕ} {h : Handle} {key : List ℕ} {r : Result Part Refusal} (a : Agrees log used t) (w : Gets log used t h key r) where
   found : Seen
   found = last_rows h (keep_rows (version_test key h.version) (rows_in log used))
 
@@ -137,21 +134,21 @@ module _ {log : List ℕ} {used : ℕ} {t : List ℕ} {h : Handle} {key : List �
       (ap or_gone (sym (last_view h log (keep_all (version_test key h.version) (in_stand log used)))))
 
   -- the bytes at the place are the value that the handle sees in the map
-  pub get_shows : (p : Part) → r ≡ Got.At p → value_for h (pairs_of (version_test key h.version) (map_of log used)) ≡ some (some (take p.len (drop p.at log)))
+  pub get_shows : (p : Part) → r ≡ Ok p → value_for h (pairs_of (version_test key h.version) (map_of log used)) ≡ Some (Some (take p.len (drop p.at log)))
   unfolding get_answer found
   get_shows p e =
       value-is
       ∙ told_at log found (fit (length log) used (length t)) (sound_handle h) (open_in log used h) (leb (length key) max_key) p (sym (w.answer a) ∙ e)
 
   -- 1: there is none, or it is deleted
-  pub get_none : r ≡ Got.Refused Absent → value_for h (pairs_of (version_test key h.version) (map_of log used)) ≡ some none
+  pub get_none : r ≡ Err Absent → value_for h (pairs_of (version_test key h.version) (map_of log used)) ≡ Some None
   unfolding get_answer found
   get_none e =
       value-is
       ∙ told_absent log found (fit (length log) used (length t)) (sound_handle h) (open_in log used h) (leb (length key) max_key) (sym (w.answer a) ∙ e)
 
   -- 12: a key or a payload is bad
-  pub get_broken : r ≡ Got.Refused BadStore → value_for h (pairs_of (version_test key h.version) (map_of log used)) ≡ none
+  pub get_broken : r ≡ Err BadStore → value_for h (pairs_of (version_test key h.version) (map_of log used)) ≡ None
   unfolding get_answer found
   get_broken e =
       value-is

@@ -7,6 +7,11 @@ use mathlib.Core.List.{List, [], ◌∷◌, ◌++◌}
 use native.Mathlib.Omega.{arith}
 use native.Mathlib.Nat.{div-add-mod', mod-lt}
 use lib.ListN.{length, take, drop, get_or}
+use Rattle.std.specs.Prelude.{Result, Ok, Err, Some}
+use Rattle.keycode.specs.declared.refusal.Refusal.{Refusal}
+use Rattle.keycode.specs.declared.strings.Fault.{Fault}
+use Rattle.std.specs.declared.cmp.Ordering.{Ordering}
+use Rattle.std.specs.declared.cmp.Ordering.TheVariants.{Less, Equal, Greater}
 use Rattle.keycode.specs.Tests.{pick}
 use Rattle.keycode.specs.Limits.{max_key}
 use Rattle.keycode.specs.Number.{be}
@@ -16,12 +21,6 @@ use Rattle.keycode.specs.key.Keys.{Fields, next_version, txn_active, txn_active_
 use Rattle.keycode.specs.declared.parts.Part.{Part}
 use Rattle.keycode.specs.declared.key.Key.{Key}
 use Rattle.keycode.specs.declared.key.Key.TheVariants as Keys
-use Rattle.keycode.specs.declared.key.Decoded.{Decoded}
-use Rattle.keycode.specs.declared.key.Decoded.TheVariants.{Whole, Refused}
-use Rattle.keycode.specs.declared.key.Reading.{Reading}
-use Rattle.keycode.specs.declared.key.Reading.TheVariants.{Read, Faulty}
-use Rattle.keycode.specs.declared.order.Order.{Order}
-use Rattle.keycode.specs.declared.order.Order.TheVariants.{Less, Equal, Greater}
 use Rattle.keycode.proofs.Basics.{nope, Ordered, below, same, above, ordered}
 use Rattle.keycode.proofs.OrderLaws.{nat_less, nat_equal, nat_greater, flip, compare_flip, compare_equal, compare_refl}
 use Rattle.keycode.proofs.NumberLaws.{Bytes}
@@ -29,16 +28,15 @@ use Rattle.keycode.proofs.key.KeyLaws.{Sound, decode_encode, encode_decode}
 use Rattle.keycode.proofs.key.KeyOrder.{order_tags, order-version}
 use Rattle.bitcask.specs.declared.answers.Bound.TheVariants.{Included}
 use Rattle.bitcask.specs.read.Ranks.{admits_low, admits_high}
-use Rattle.mvcc.specs.declared.payload.VersionRead.TheVariants as Version
 use Rattle.bitcask.specs.engine.Ranges.{inside}
 use Rattle.mvcc.specs.version.Seen.{version_of, version_test}
 
 -- the test by the two orders that it asks for
-test_by : Order → Order → Bool
+test_by : Ordering → Ordering → Bool
 test_by a b = pick (admits_low Included a) (admits_high Included b) false
 
 module _ (key : List ℕ) (v : ℕ) (hv : v < 256 ^ 8) where
-  test_is : (k : List ℕ) {a b : Order} → compare_bytes k (encode (version key 0)) ≡ a → compare_bytes k (encode (version key v)) ≡ b → version_test key v k ≡ test_by a b
+  test_is : (k : List ℕ) {a b : Ordering} → compare_bytes k (encode (version key 0)) ≡ a → compare_bytes k (encode (version key v)) ≡ b → version_test key v k ≡ test_by a b
   unfolding inside test_by
   test_is k p q = rw (p, q)
 
@@ -95,7 +93,7 @@ module _ (key : List ℕ) (v : ℕ) (hv : v < 256 ^ 8) where
   pub version-inside : (u : ℕ) → u ≤ v → version_test key v (encode (version key u)) ≡ true
   version-inside u l = version_test_lem key u (omega arith) ∙ rw (compare_refl key) (low-order u ∙ within u l)
 
-  by_string : (s : List ℕ) (u : ℕ) (o : Order) → compare_bytes s key ≡ o → test_by (and_then o (compare_nat u 0)) (and_then o (compare_nat u v)) ≡ true → (version s u ≡ version key u) × (u ≤ v)
+  by_string : (s : List ℕ) (u : ℕ) (o : Ordering) → compare_bytes s key ≡ o → test_by (and_then o (compare_nat u 0)) (and_then o (compare_nat u v)) ≡ true → (version s u ≡ version key u) × (u ≤ v)
   unfolding test_by
   by_string s u Less q e = nope (cc)
   by_string s u Equal q e = (ap (λ (x : List ℕ). version x u) (compare_equal s key q), up_to u (sym (low-order u) ∙ e))
@@ -126,21 +124,21 @@ version-fits s u k b e =
     top [] = refl
     top (y ∷ x) = top x
 
-read_whole : (d : Decoded) (u : ℕ) → version_of d ≡ Version.Read u → (p : Part) × (d ≡ Whole (Keys.Version p u))
-read_whole (Whole Keys.NextVersion) u e = nope (cc)
-read_whole (Whole (Keys.TxnActive v)) u e = nope (cc)
-read_whole (Whole (Keys.TxnActiveSnapshot v)) u e = nope (cc)
-read_whole (Whole (Keys.TxnWrite v p)) u e = nope (cc)
-read_whole (Whole (Keys.Version p v)) u e = let z : v ≡ u = cc in (p, rw z)
-read_whole (Whole (Keys.Unversioned p)) u e = nope (cc)
-read_whole (Refused r) u e = nope (cc)
+read_whole : (d : Result Key Refusal) (u : ℕ) → version_of d ≡ Some u → (p : Part) × (d ≡ Ok (Keys.Version p u))
+read_whole (Ok Keys.NextVersion) u e = nope (cc)
+read_whole (Ok (Keys.TxnActive v)) u e = nope (cc)
+read_whole (Ok (Keys.TxnActiveSnapshot v)) u e = nope (cc)
+read_whole (Ok (Keys.TxnWrite v p)) u e = nope (cc)
+read_whole (Ok (Keys.Version p v)) u e = let z : v ≡ u = cc in (p, rw z)
+read_whole (Ok (Keys.Unversioned p)) u e = nope (cc)
+read_whole (Err r) u e = nope (cc)
 
-whole_read : (r : Reading) (d : Key) → forget r ≡ Whole d → r ≡ Read d
-whole_read (Read x) d e = let z : x ≡ d = cc in rw z
-whole_read (Faulty w) d e = nope (cc)
+whole_read : (r : Result Key Fault) (d : Key) → forget r ≡ Ok d → r ≡ Ok d
+whole_read (Ok x) d e = let z : x ≡ d = cc in rw z
+whole_read (Err w) d e = nope (cc)
 
 module _ (key : List ℕ) (v : ℕ) (hv : v < 256 ^ 8) where
-  pub among-versions : (k : List ℕ) → Bytes k → version_test key v k ≡ true → (u : ℕ) → version_of (forget (decode_why max_key k)) ≡ Version.Read u → (k ≡ encode (version key u)) × (u ≤ v)
+  pub among-versions : (k : List ℕ) → Bytes k → version_test key v k ≡ true → (u : ℕ) → version_of (forget (decode_why max_key k)) ≡ Some u → (k ≡ encode (version key u)) × (u ≤ v)
   among-versions k b e u q =
       let d = read_whole (forget (decode_why max_key k)) u q in
       let s : List ℕ = unescaped (take d.0.len (drop d.0.at k)) in
@@ -150,5 +148,5 @@ module _ (key : List ℕ) (v : ℕ) (hv : v < 256 ^ 8) where
       found : (s : List ℕ) (u : ℕ) (k : List ℕ) → encode (version s u) ≡ k → (x : ℕ) × ((version s u ≡ version key x) × (x ≤ v)) → (k ≡ encode (version key u)) × (u ≤ v)
       found s u k w (x, (f, l)) = let z : u ≡ x = cc in let y : s ≡ key = cc in (sym w ∙ rw y, rw z l)
 
-  pub version_read : (u : ℕ) → u ≤ v → length key ≤ max_key → version_of (forget (decode_why max_key (encode (version key u)))) ≡ Version.Read u
-  version_read u l h = ap (λ (r : Reading). version_of (forget r)) (decode_encode max_key (version key u) (omega arith) h)
+  pub version_read : (u : ℕ) → u ≤ v → length key ≤ max_key → version_of (forget (decode_why max_key (encode (version key u)))) ≡ Some u
+  version_read u l h = ap (λ (r : Result Key Fault). version_of (forget r)) (decode_encode max_key (version key u) (omega arith) h)

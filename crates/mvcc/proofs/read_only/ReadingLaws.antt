@@ -2,13 +2,13 @@
 use Prim.Native.Nat.{ℕ, ◌+◌, ◌≤◌, ◌<◌}
 use mathlib.Core.Path.{◌≡◌, refl, ap, ◌∙◌}
 use mathlib.Core.Bool.{Bool, true, false}
-use mathlib.Core.Option.{Option, none, some}
 use mathlib.Core.List.{List, []}
 use native.Mathlib.Decide.{dec_le}
 use native.Mathlib.Omega.{arith}
 use lib.Dec.{leb, eqb}
 use lib.ListN.{length}
 use borrow.Author.Tests.{le-leb, lt-leb}
+use Rattle.std.specs.Prelude.{Result, Ok, Err, Option, ℕ, Some, None}
 use Rattle.keycode.specs.Tests.{pick, if_done}
 use Rattle.keycode.specs.Limits.{max_open}
 use Rattle.keycode.specs.declared.refusal.Refusal.{Refusal}
@@ -18,19 +18,13 @@ use Rattle.keycode.proofs.NumberLaws.{Bytes}
 use Rattle.bitcask.specs.declared.request.Used.{Used}
 use Rattle.bitcask.specs.recovery.Recover.{map_of}
 use Rattle.bitcask.specs.declared.engine.mark.Mark.{Mark}
-use Rattle.bitcask.specs.declared.engine.mark.Entered.{Entered}
-use Rattle.bitcask.specs.declared.engine.mark.Entered.TheVariants as Entering
 use Rattle.bitcask.specs.engine.Rows.{rows}
 use Rattle.bitcask.specs.engine.Marks.{entered_by}
 use Rattle.bitcask.proofs.engine.SpotLaws.{in_fits, in_agreeing, refused_fits}
 use Rattle.mvcc.specs.declared.handle.Handle.{Handle}
-use Rattle.mvcc.specs.declared.payload.VersionRead.{VersionRead}
-use Rattle.mvcc.specs.declared.payload.VersionRead.TheVariants.{Read, Bad as BadVersion}
 use Rattle.mvcc.specs.handle.Handles.{handle_of, blank_handle}
 use Rattle.mvcc.proofs.handle.HandleLaws.{made_all}
 use Rattle.mvcc.specs.declared.snapshot.Seen.{Seen}
-use Rattle.mvcc.specs.declared.snapshot.Tally.{Tally}
-use Rattle.mvcc.specs.declared.snapshot.Tally.TheVariants.{Open, Bad}
 use Rattle.mvcc.specs.declared.begun.Begun.{Begun}
 use Rattle.mvcc.specs.snapshot.Active.{next_in, next_at, versions_in, keys_in, active_rows, active_at, seen_from, seen_by}
 use Rattle.mvcc.specs.request.Given.{refused_by, begun_with, begun_number}
@@ -39,26 +33,26 @@ use Rattle.mvcc.specs.read_only.Promises.{BeginsReading}
 use Rattle.mvcc.proofs.snapshot.AgreedLaws.{next-agrees, active_agrees}
 
 -- the answer by what was seen
-abbrev reading_of : ℕ → Tally → Handle → Begun
-reading_of used Bad h = refused_by BadStore
-reading_of used (Open k) h = pick (leb k max_open) (begun_with used h) (refused_by TooManyOpen)
+abbrev reading_of : ℕ → Option ℕ → Handle → Begun
+reading_of used None h = refused_by BadStore
+reading_of used (Some k) h = pick (leb k max_open) (begun_with used h) (refused_by TooManyOpen)
 
-reading_seen : (used : ℕ) (v : VersionRead) (o : Option (List ℕ)) → reading_of used (seen_by true v o).tally (seen_by true v o).handle ≡ reading_by used v o
+reading_seen : (used : ℕ) (v : Option ℕ) (o : Option (List ℕ)) → reading_of used (seen_by true v o).tally (seen_by true v o).handle ≡ reading_by used v o
 unfolding seen_from
-reading_seen used BadVersion o = refl
-reading_seen used (Read v) none = refl
-reading_seen used (Read v) (some vs) = go (dec_le (length vs) max_open)
+reading_seen used None o = refl
+reading_seen used (Some v) None = refl
+reading_seen used (Some v) (Some vs) = go (dec_le (length vs) max_open)
   where
-    go : Dec (length vs ≤ max_open) → reading_of used (seen_by true (Read v) (some vs)).tally (seen_by true (Read v) (some vs)).handle ≡ reading_by used (Read v) (some vs)
+    go : Dec (length vs ≤ max_open) → reading_of used (seen_by true (Some v) (Some vs)).tally (seen_by true (Some v) (Some vs)).handle ≡ reading_by used (Some v) (Some vs)
     go (yes h) = let z : 0 + length vs ≡ length vs = omega arith in rw (z, le-leb (length vs) max_open h, made_all v true [] vs (omega arith))
     go (no h) = let z : 0 + length vs ≡ length vs = omega arith in rw (z, lt-leb (length vs) max_open (omega arith))
 
 -- every refusal comes with a blank handle, and none is 13
-reading_blank : (used : ℕ) (v : VersionRead) (o : Option (List ℕ))
+reading_blank : (used : ℕ) (v : Option ℕ) (o : Option (List ℕ))
     → ((reading_by used v o).handle ≡ if_done (begun_number (reading_by used v o)) (reading_by used v o).handle blank_handle) × (eqb (begun_number (reading_by used v o)) 13 ≡ false)
-reading_blank used BadVersion o = (refl, refl)
-reading_blank used (Read v) none = (refl, refl)
-reading_blank used (Read v) (some vs) = go (leb (length vs) max_open)
+reading_blank used None o = (refl, refl)
+reading_blank used (Some v) None = (refl, refl)
+reading_blank used (Some v) (Some vs) = go (leb (length vs) max_open)
   where
     go : (b : Bool)
         → ((pick b (begun_with used (handle_of v true vs)) (refused_by TooManyOpen)).handle
@@ -67,14 +61,14 @@ reading_blank used (Read v) (some vs) = go (leb (length vs) max_open)
     go true = (refl, refl)
     go false = (refl, refl)
 
-module _ (log : List ℕ) (used : Used) (t : List ℕ) {a : Entered} (ea : a ≡ entered_by log used t) {r : Begun} where
-  pub reading_sizes : (x : Refusal) → a ≡ Entering.Refused x → r ≡ refused_by x → BeginsReading log used.len t r
+module _ (log : List ℕ) (used : Used) (t : List ℕ) {a : Result Mark Refusal} (ea : a ≡ entered_by log used t) {r : Begun} where
+  pub reading_sizes : (x : Refusal) → a ≡ Err x → r ≡ refused_by x → BeginsReading log used.len t r
   reading_sizes x e q =
       let w = refused_fits log used t a ea x e in
       let z : r ≡ refused_by BadRequest = q ∙ ap refused_by w.1 in
       rw z (record { blank = refl; bad = rw w.0; answer = λ g. nope (cc (g.sound, w.0)) })
 
-  module _ (m : Mark) (e : a ≡ Entering.In m) (b : Bytes log) {s : Seen}
+  module _ (m : Mark) (e : a ≡ Ok m) (b : Bytes log) {s : Seen}
       (seen : s ≡ seen_by true (next_in (rows log t m)) (versions_in (keys_in (active_rows (rows log t m))))) where
     reading_made : r ≡ reading_of used.len s.tally s.handle → BeginsReading log used.len t r
     reading_made y =
@@ -89,14 +83,14 @@ module _ (log : List ℕ) (used : Used) (t : List ℕ) {a : Entered} (ea : a ≡
           blank = z.0;
           bad = z.1 ∙ rw f.0;
           answer = λ g. let h = in_agreeing log used t a ea m e g in
-              ap (λ (x : VersionRead). reading_by used.len x o) (next-agrees log t m h) ∙ ap (reading_by used.len (next_at (map_of log m.used.len))) (active_agrees log t m h b)
+              ap (λ (x : Option ℕ). reading_by used.len x o) (next-agrees log t m h) ∙ ap (reading_by used.len (next_at (map_of log m.used.len))) (active_agrees log t m h b)
               ∙ ap (λ (n : ℕ). reading_by used.len (next_at (map_of log n)) (active_at (map_of log n))) u;
         })
 
-    pub reading_bad : s.tally ≡ Bad → r ≡ refused_by BadStore → BeginsReading log used.len t r
+    pub reading_bad : s.tally ≡ None → r ≡ refused_by BadStore → BeginsReading log used.len t r
     reading_bad y q = reading_made (q ∙ rw y)
 
-    module _ (k : ℕ) (y : s.tally ≡ Open k) where
+    module _ (k : ℕ) (y : s.tally ≡ Some k) where
       pub reading_many : max_open < k → r ≡ refused_by TooManyOpen → BeginsReading log used.len t r
       reading_many h q = reading_made (q ∙ rw (y, lt-leb k max_open h))
 

@@ -5,13 +5,12 @@ use mathlib.Core.Bool.{Bool, true, false, not}
 use native.Mathlib.Omega.{arith}
 use lib.Dec.{eqb}
 use borrow.Author.Tests.{eq-eqb, ne_eqb}
+use Rattle.std.specs.Prelude.{Result, ⊤, Ok}
 use Rattle.keycode.specs.Tests.{pick}
 use Rattle.keycode.specs.Refusals.{number_of}
 use Rattle.keycode.specs.declared.refusal.Refusal.{Refusal}
 use Rattle.keycode.proofs.Basics.{nope}
 use Rattle.keycode.proofs.BufferLaws.{refused_stays}
-use Rattle.bitcask.specs.declared.append.Check.{Check}
-use Rattle.bitcask.specs.declared.append.Check.TheVariants.{Fine}
 use Rattle.mvcc.specs.declared.handle.Handle.{Handle}
 use Rattle.mvcc.specs.request.Checks.{own_version, open_by, admit_by, check_number, on_fine}
 
@@ -63,7 +62,7 @@ pub record Admitted (fits sound active : Bool) : Type 0 where
   pub handle : sound ≡ true
   pub opened : active ≡ true
 
-pub admit_fine : (fits sound active : Bool) → Fine ≡ admit_by fits sound active → Admitted fits sound active
+pub admit_fine : (fits sound active : Bool) → (Ok tt) ≡ admit_by fits sound active → Admitted fits sound active
 unfolding admit_by
 admit_fine true true true e = record { sizes = refl; handle = refl; opened = refl }
 admit_fine true true false e = nope (cc)
@@ -92,7 +91,7 @@ open_ever h live e = read_by h.read_only (own_version h.version) live e
 
 -- ---- the number of an answer that comes behind the checks, n being that of what follows them
 
-abbrev pub behind : Check → ℕ → ℕ
+abbrev pub behind : Result ⊤ Refusal → ℕ → ℕ
 behind c n = on_fine c n (check_number c)
 
 module _ (n : ℕ) where

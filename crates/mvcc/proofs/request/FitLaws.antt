@@ -9,10 +9,11 @@ use native.Mathlib.Omega.{arith}
 use lib.Dec.{leb}
 use lib.ListN.{length}
 use borrow.Author.Tests.{le-leb, lt-leb, leb-true}
+use Rattle.std.specs.Prelude.{Some, None, Ok}
+use Rattle.std.specs.declared.cmp.Ordering.{Ordering}
+use Rattle.std.specs.declared.cmp.Ordering.TheVariants.{Less, Equal, Greater}
 use Rattle.keycode.specs.Tests.{pick}
 use Rattle.keycode.specs.Order.{compare_bytes}
-use Rattle.keycode.specs.declared.order.Order.{Order}
-use Rattle.keycode.specs.declared.order.Order.TheVariants.{Less, Equal, Greater}
 use Rattle.keycode.proofs.Basics.{nope}
 use Rattle.bitcask.specs.entry.Entry.{Entry, set, del, entry_key, size_of}
 use Rattle.bitcask.specs.keydir.Slots.{slot_words, slots_of}
@@ -22,8 +23,6 @@ use Rattle.bitcask.specs.recovery.Recover.{map_of}
 use Rattle.bitcask.specs.recovery.Agree.{Agrees}
 use Rattle.bitcask.proofs.recovery.MapLaws.{put_other}
 use Rattle.bitcask.proofs.recovery.AgreeLaws.{agrees-sound, agrees-count, agrees-room, map-length}
-use Rattle.bitcask.specs.declared.append.Room.TheVariants.{Left, Full}
-use Rattle.bitcask.specs.declared.append.Check.TheVariants.{Fine}
 use Rattle.bitcask.specs.change.Append.{judge, size_all, after_all, append_answer}
 use Rattle.mvcc.specs.request.Lists.{appended_all, room_all, Sets, sets-none, sets_more, Dels, dels_none, dels_more, Apart, apart_more, new_in, new_all, fresh_all, Fitting, fitting_none, fitting_more, check_of}
 use Rattle.mvcc.proofs.request.LookLaws.{fresh_agrees}
@@ -31,7 +30,7 @@ use Rattle.mvcc.proofs.request.ListLaws.{Appends, append-all}
 
 -- ---- how many keys one entry leaves
 
-put_length_on : (p q : Pair) (m : List Pair) (o : Order) → compare_bytes q.key p.key ≡ o → length (put_in p m) ≡ length m + new_in p.key m
+put_length_on : (p q : Pair) (m : List Pair) (o : Ordering) → compare_bytes q.key p.key ≡ o → length (put_in p m) ≡ length m + new_in p.key m
     → length (put_in p (q ∷ m)) ≡ length (q ∷ m) + new_in p.key (q ∷ m)
 unfolding put_in look_in live_in new_in
 put_length_on p q m Less e ih = rw e (omega arith)
@@ -47,7 +46,7 @@ pub set-length : (k v : List ℕ) (m : List Pair) → length (after (set k v) m)
 unfolding after
 set-length k v m = put-length (record { key = k; value = v }) m
 
-cut_length_on : (k : List ℕ) (q : Pair) (m : List Pair) (o : Order) → compare_bytes q.key k ≡ o → length (cut_in k m) ≤ length m → length (cut_in k (q ∷ m)) ≤ length (q ∷ m)
+cut_length_on : (k : List ℕ) (q : Pair) (m : List Pair) (o : Ordering) → compare_bytes q.key k ≡ o → length (cut_in k m) ≤ length m → length (cut_in k (q ∷ m)) ≤ length (q ∷ m)
 unfolding cut_in
 cut_length_on k q m Less e ih = rw e (omega arith)
 cut_length_on k q m Equal e ih = rw e (omega arith)
@@ -97,18 +96,18 @@ sets_new (sets_more {k = k} {v = v} s) (apart_more a r) m = omega (arith, sets_n
 
 -- ---- the room that a list leaves
 
-room-none : (es : List Entry) → room_all Full es ≡ Full
+room-none : (es : List Entry) → room_all None es ≡ None
 unfolding room_all
 room-none [] = refl
 room-none (e ∷ es) = room-none es
 
-pub room-all : (n : ℕ) (es : List Entry) → room_all (Left n) es ≡ pick (leb (size_all es) n) (Left (n - size_all es)) Full
+pub room-all : (n : ℕ) (es : List Entry) → room_all (Some n) es ≡ pick (leb (size_all es) n) (Some (n - size_all es)) None
 unfolding room_all size_all
-room-all n [] = rw (le-leb 0 n (omega arith)) (ap Left (omega arith))
+room-all n [] = rw (le-leb 0 n (omega arith)) (ap Some (omega arith))
 room-all n (e ∷ es) = go (dec_le (size_of e) n) (dec_le (size_all es) (n - size_of e)) (room-all (n - size_of e) es)
   where
-    go : Dec (size_of e ≤ n) → Dec (size_all es ≤ n - size_of e) → room_all (Left (n - size_of e)) es ≡ pick (leb (size_all es) (n - size_of e)) (Left (n - size_of e - size_all es)) Full
-        → room_all (pick (leb (size_of e) n) (Left (n - size_of e)) Full) es ≡ pick (leb (size_of e + size_all es) n) (Left (n - (size_of e + size_all es))) Full
+    go : Dec (size_of e ≤ n) → Dec (size_all es ≤ n - size_of e) → room_all (Some (n - size_of e)) es ≡ pick (leb (size_all es) (n - size_of e)) (Some (n - size_of e - size_all es)) None
+        → room_all (pick (leb (size_of e) n) (Some (n - size_of e)) None) es ≡ pick (leb (size_of e + size_all es) n) (Some (n - (size_of e + size_all es))) None
     go (yes h) (yes g) ih =
         let q : n - size_of e - size_all es ≡ n - (size_of e + size_all es) = omega arith in
         rw (le-leb (size_of e) n h, le-leb (size_of e + size_all es) n (omega arith)) (ih ∙ rw (le-leb (size_all es) (n - size_of e) g, q))
@@ -119,17 +118,17 @@ room-all n (e ∷ es) = go (dec_le (size_of e) n) (dec_le (size_all es) (n - siz
 -- ---- 7 and 8
 
 module _ (es : List Entry) (n : ℕ) where
-  pub list_left : size_all es ≤ n → room_all (Left n) es ≡ Left (n - size_all es)
+  pub list_left : size_all es ≤ n → room_all (Some n) es ≡ Some (n - size_all es)
   list_left h = room-all n es ∙ rw (le-leb (size_all es) n h)
 
-  pub list_full : n < size_all es → room_all (Left n) es ≡ Full
+  pub list_full : n < size_all es → room_all (Some n) es ≡ None
   list_full h = room-all n es ∙ rw (lt-leb (size_all es) n h)
 
   -- what the judgement of a list says for any table
-  pub judge-says : (fresh free : ℕ) → judge (room_all (Left n) es) fresh free ≡ Fine → (size_all es ≤ n) × (fresh ≤ free)
+  pub judge-says : (fresh free : ℕ) → judge (room_all (Some n) es) fresh free ≡ (Ok tt) → (size_all es ≤ n) × (fresh ≤ free)
   judge-says fresh free e = go (leb (size_all es) n) refl (leb fresh free) refl (rw (room-all n es) at e)
     where
-      go : (a : Bool) → leb (size_all es) n ≡ a → (b : Bool) → leb fresh free ≡ b → judge (pick (leb (size_all es) n) (Left (n - size_all es)) Full) fresh free ≡ Fine
+      go : (a : Bool) → leb (size_all es) n ≡ a → (b : Bool) → leb fresh free ≡ b → judge (pick (leb (size_all es) n) (Some (n - size_all es)) None) fresh free ≡ (Ok tt)
           → (size_all es ≤ n) × (fresh ≤ free)
       go true p true q f = (leb-true (size_all es) n p, leb-true fresh free q)
       go true p false q f = nope (cc (rw (p, q) at f))
@@ -138,11 +137,11 @@ module _ (es : List Entry) (n : ℕ) where
 module _ (log : List ℕ) (used : ℕ) (words : ℕ) (es : List Entry) (within : used ≤ length log) (fresh free : ℕ) where
   -- the judgement is the engine's rule where fresh and free say how many keys the map has then
   judge-is : (fresh ≤ free → length (after_all es (map_of log used)) ≤ words / slot_words) → (free < fresh → words / slot_words < length (after_all es (map_of log used)))
-      → judge (room_all (Left (length log - used)) es) fresh free ≡ check_of (append_answer log used words es)
+      → judge (room_all (Some (length log - used)) es) fresh free ≡ check_of (append_answer log used words es)
   unfolding append_answer
   judge-is f g = go (dec_le (size_all es) (length log - used)) (dec_le fresh free)
     where
-      go : Dec (size_all es ≤ length log - used) → Dec (fresh ≤ free) → judge (room_all (Left (length log - used)) es) fresh free ≡ check_of (append_answer log used words es)
+      go : Dec (size_all es ≤ length log - used) → Dec (fresh ≤ free) → judge (room_all (Some (length log - used)) es) fresh free ≡ check_of (append_answer log used words es)
       go (yes h) (yes k) =
           rw (list_left es (length log - used) h, le-leb fresh free k, le-leb (used + size_all es) (length log) (omega arith), le-leb (length (after_all es (map_of log used))) (words / slot_words) (f k))
       go (yes h) (no k) =
@@ -150,12 +149,12 @@ module _ (log : List ℕ) (used : ℕ) (words : ℕ) (es : List Entry) (within :
       go (no h) d = rw (list_full es (length log - used) (omega arith), lt-leb (used + size_all es) (length log) (omega arith))
 
 -- what the rule says when it is met
-pub answer_fine : (log : List ℕ) (used words : ℕ) (es : List Entry) → check_of (append_answer log used words es) ≡ Fine → (used + size_all es ≤ length log) × (length (after_all es (map_of log used)) ≤ words / slot_words)
+pub answer_fine : (log : List ℕ) (used words : ℕ) (es : List Entry) → check_of (append_answer log used words es) ≡ (Ok tt) → (used + size_all es ≤ length log) × (length (after_all es (map_of log used)) ≤ words / slot_words)
 unfolding append_answer
 answer_fine log used words es e = go (leb (used + size_all es) (length log)) refl (leb (length (after_all es (map_of log used))) (words / slot_words)) refl e
   where
     go : (a : Bool) → leb (used + size_all es) (length log) ≡ a → (b : Bool) → leb (length (after_all es (map_of log used))) (words / slot_words) ≡ b
-        → check_of (append_answer log used words es) ≡ Fine → (used + size_all es ≤ length log) × (length (after_all es (map_of log used)) ≤ words / slot_words)
+        → check_of (append_answer log used words es) ≡ (Ok tt) → (used + size_all es ≤ length log) × (length (after_all es (map_of log used)) ≤ words / slot_words)
     go true p true q f = (leb-true (used + size_all es) (length log) p, leb-true (length (after_all es (map_of log used))) (words / slot_words) q)
     go true p false q f = nope (cc (rw (p, q) at f))
     go false p b q f = nope (cc (rw p at f))
@@ -174,13 +173,13 @@ module _ (log : List ℕ) (used : ℕ) (t : List ℕ) (es : List Entry) (g : Agr
   pub map-fits : length (map_of log used) ≤ length t / slot_words
   map-fits = omega (arith, map-length log used, agrees-room log used t g)
 
-  new_judged : Sets es → Apart es → judge (room_all (Left (length log - used)) es) (new_all es (map_of log used)) (length t / slot_words - n) ≡ check_of (append_answer log used (length t) es)
+  new_judged : Sets es → Apart es → judge (room_all (Some (length log - used)) es) (new_all es (map_of log used)) (length t / slot_words - n) ≡ check_of (append_answer log used (length t) es)
   new_judged s a =
       judge-is log used (length t) es (agrees-sound log used t g).within (new_all es (map_of log used)) (length t / slot_words - n)
       (λ h. omega (arith, sets_new s a (map_of log used), map-count, map-fits)) (λ h. omega (arith, sets_new s a (map_of log used), map-count, map-fits))
 
-  pub sets-judged : Sets es → Apart es → judge (room_all (Left (length log - used)) es) (fresh_all log es (slots_of n t)) (length t / slot_words - n) ≡ check_of (append_answer log used (length t) es)
-  sets-judged s a = ap (λ (f : ℕ). judge (room_all (Left (length log - used)) es) f (length t / slot_words - n)) (rw en (all_fresh log used t g es)) ∙ new_judged s a
+  pub sets-judged : Sets es → Apart es → judge (room_all (Some (length log - used)) es) (fresh_all log es (slots_of n t)) (length t / slot_words - n) ≡ check_of (append_answer log used (length t) es)
+  sets-judged s a = ap (λ (f : ℕ). judge (room_all (Some (length log - used)) es) f (length t / slot_words - n)) (rw en (all_fresh log used t g es)) ∙ new_judged s a
 
   -- the law of appended lists, for the two kinds that the calls have
   module _ (room : used + size_all es ≤ length log) where

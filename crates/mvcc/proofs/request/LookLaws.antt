@@ -6,9 +6,8 @@ use mathlib.Core.List.{List, [], ◌∷◌}
 use native.Mathlib.Omega.{arith}
 use lib.ListN.{take, drop}
 use lib.Seq.{take-nil}
+use Rattle.std.specs.Prelude.{Result, ℕ, Ok, Err}
 use Rattle.bitcask.specs.declared.keydir.slots.Slot.{Slot}
-use Rattle.bitcask.specs.declared.keydir.place.Found.{Found}
-use Rattle.bitcask.specs.declared.keydir.place.Found.TheVariants.{At, Before}
 use Rattle.bitcask.specs.keydir.Slots.{slots_of}
 use Rattle.bitcask.specs.keydir.Place.{count_of, place_of, place_in}
 use Rattle.bitcask.specs.recovery.Map.{is_some, live_in}
@@ -22,21 +21,21 @@ use Rattle.mvcc.specs.request.Lists.{new_by, new_in}
 
 -- ---- what the code answers
 
-module _ (log key t : List ℕ) (n : ℕ) (f : Found) (says : f ≡ place_of log key (slots_of n t)) (i : ℕ) where
-  pub live_at : f ≡ At i → true ≡ live_of log key (slots_of n t)
+module _ (log key t : List ℕ) (n : ℕ) (f : Result ℕ ℕ) (says : f ≡ place_of log key (slots_of n t)) (i : ℕ) where
+  pub live_at : f ≡ Ok i → true ≡ live_of log key (slots_of n t)
   unfolding live_of
   live_at e = rw (← says, e)
 
-  pub live-before : f ≡ Before i → false ≡ live_of log key (slots_of n t)
+  pub live-before : f ≡ Err i → false ≡ live_of log key (slots_of n t)
   unfolding live_of
   live-before e = rw (← says, e)
 
 -- ---- under agreement
 
 module _ (log key : List ℕ) (ss : List Slot) where
-  at_some : (f : Found) → is_at f ≡ is_some (value_at log key ss f)
-  at_some (At i) = refl
-  at_some (Before i) = refl
+  at_some : (f : Result ℕ ℕ) → is_at f ≡ is_some (value_at log key ss f)
+  at_some (Ok i) = refl
+  at_some (Err i) = refl
 
 module _ (log : List ℕ) (used : ℕ) (t : List ℕ) (g : Agrees log used t) (key : List ℕ) where
   pub live-agrees : live_of log key (slots_of (count_of t) t) ≡ live_in key (map_of log used)
@@ -50,9 +49,9 @@ module _ (log : List ℕ) (used : ℕ) (t : List ℕ) (g : Agrees log used t) (k
   unfolding fresh_in new_in
   fresh_agrees = rw (← live-agrees) (go (place_of log key (slots_of (count_of t) t)) refl)
     where
-      go : (f : Found) → place_of log key (slots_of (count_of t) t) ≡ f → wants f ≡ new_by (live_of log key (slots_of (count_of t) t))
-      go (At i) e = rw (← live_at log key t (count_of t) (At i) (sym e) i refl)
-      go (Before i) e = rw (← live-before log key t (count_of t) (Before i) (sym e) i refl)
+      go : (f : Result ℕ ℕ) → place_of log key (slots_of (count_of t) t) ≡ f → wants f ≡ new_by (live_of log key (slots_of (count_of t) t))
+      go (Ok i) e = rw (← live_at log key t (count_of t) (Ok i) (sym e) i refl)
+      go (Err i) e = rw (← live-before log key t (count_of t) (Err i) (sym e) i refl)
 
 -- ---- a value without its first bytes, as a part of the log
 

@@ -4,11 +4,11 @@ use mathlib.Core.Path.{◌≡◌, refl, sym, ap, ◌∙◌, subst}
 use mathlib.Core.Bool.{Bool, true, false}
 use mathlib.Core.List.{List}
 use lib.ListN.{length, drop}
+use Rattle.std.specs.declared.cmp.Ordering.{Ordering}
+use Rattle.std.specs.declared.cmp.Ordering.TheVariants.{Less, Equal, Greater}
 use Rattle.keycode.specs.Tests.{pick}
 use Rattle.keycode.specs.Order.{compare_bytes}
 use Rattle.keycode.specs.Prefix.{prefix_end, searched}
-use Rattle.keycode.specs.declared.order.Order.{Order}
-use Rattle.keycode.specs.declared.order.Order.TheVariants.{Less, Equal, Greater}
 use Rattle.keycode.proofs.Basics.{nope}
 use Rattle.keycode.proofs.NumberLaws.{Bytes, bytes_take, bytes_drop}
 use Rattle.keycode.proofs.OrderLaws.{compare_equal, compare_trans}
@@ -35,7 +35,7 @@ module _ (low last k : List ℕ) where
   low-after : admits_low Excluded (compare_bytes low last) ≡ true → admits_low Included (compare_bytes k low) ≡ true → admits_low Excluded (compare_bytes k last) ≡ true
   low-after = go (compare_bytes low last) refl (compare_bytes k low) refl
     where
-      go : (a : Order) → compare_bytes low last ≡ a → (b : Order) → compare_bytes k low ≡ b → admits_low Excluded a ≡ true → admits_low Included b ≡ true → admits_low Excluded (compare_bytes k last) ≡ true
+      go : (a : Ordering) → compare_bytes low last ≡ a → (b : Ordering) → compare_bytes k low ≡ b → admits_low Excluded a ≡ true → admits_low Included b ≡ true → admits_low Excluded (compare_bytes k last) ≡ true
       go Less p b q x y = nope (cc)
       go Equal p b q x y = nope (cc)
       go Greater p Less q x y = nope (cc)
@@ -46,14 +46,14 @@ module _ (low last k : List ℕ) where
   low-before : admits_low Excluded (compare_bytes low last) ≡ false → admits_low Excluded (compare_bytes k last) ≡ true → admits_low Excluded (compare_bytes k low) ≡ true
   low-before = go (compare_bytes low last) refl (compare_bytes k last) refl
     where
-      go : (a : Order) → compare_bytes low last ≡ a → (b : Order) → compare_bytes k last ≡ b → admits_low Excluded a ≡ false → admits_low Excluded b ≡ true → admits_low Excluded (compare_bytes k low) ≡ true
+      go : (a : Ordering) → compare_bytes low last ≡ a → (b : Ordering) → compare_bytes k last ≡ b → admits_low Excluded a ≡ false → admits_low Excluded b ≡ true → admits_low Excluded (compare_bytes k low) ≡ true
       go a p Less q x y = nope (cc)
       go a p Equal q x y = nope (cc)
       go Less p Greater q x y = ap (admits_low Excluded) (less_greater low k (compare_trans low last k p (greater_less k last q)))
       go Equal p Greater q x y = ap (admits_low Excluded) (ap (compare_bytes k) (compare_equal low last p) ∙ q)
       go Greater p Greater q x y = nope (cc)
 
-also_included : (o : Order) → admits_low Excluded o ≡ true → admits_low Included o ≡ true
+also_included : (o : Ordering) → admits_low Excluded o ≡ true → admits_low Included o ≡ true
 also_included Less e = nope (cc)
 also_included Equal e = nope (cc)
 also_included Greater e = refl

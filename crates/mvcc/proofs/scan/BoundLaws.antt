@@ -7,6 +7,9 @@ use native.Mathlib.Omega.{arith}
 use lib.Dec.{leb}
 use lib.ListN.{length, take, set, replicate, length-take, length-set}
 use borrow.Author.Tests.{leb-true, not-true, not-false}
+use Rattle.std.specs.Prelude.{Result}
+use Rattle.bitcask.specs.declared.answers.KeyValue.{KeyValue}
+use Rattle.keycode.specs.declared.refusal.Refusal.{Refusal}
 use Rattle.keycode.specs.Tests.{pick}
 use Rattle.keycode.specs.Limits.{max_key}
 use Rattle.keycode.specs.Order.{compare_bytes}
@@ -18,7 +21,6 @@ use Rattle.keycode.specs.code.Codes.{Codes, key_bytes}
 use Rattle.bitcask.proofs.recovery.AgreeLaws.{both}
 use Rattle.bitcask.specs.declared.answers.Bound.{Bound}
 use Rattle.bitcask.specs.declared.answers.Bound.TheVariants.{Included, Excluded, Unbounded}
-use Rattle.bitcask.specs.declared.answers.Stepped.{Stepped}
 use Rattle.bitcask.specs.read.Ranks.{admits_low}
 use Rattle.bitcask.specs.engine.Rows.{Row}
 use Rattle.bitcask.specs.engine.Spots.{from_rank}
@@ -94,16 +96,16 @@ module _ (p : List ℕ) (given : Bool) (last : List ℕ) (f : prefix_fits p give
   prefix_last = (both (leb (length p) max_key) (last_fits given last) f).1
 
 module _ (h : Handle) (log : List ℕ) (rs : List Row) (given : Bool) (last : List ℕ) where
-  pub past_by : (lower : Bound) (low : List ℕ) (upper : Bound) (high : List ℕ) {n : ℕ} {r : Stepped} → n ≡ start_rank lower low given last rs → r ≡ step_rows h log (up_from upper high rs n)
+  pub past_by : (lower : Bound) (low : List ℕ) (upper : Bound) (high : List ℕ) {n : ℕ} {r : Result KeyValue Refusal} → n ≡ start_rank lower low given last rs → r ≡ step_rows h log (up_from upper high rs n)
       → r ≡ step_rows h log (past_rows lower low upper high given last rs)
   unfolding past_rows
   past_by lower low upper high en er = er ∙ ap (λ (k : ℕ). step_rows h log (up_from upper high rs k)) en
 
-  pub between_by : (lower : Bound) (low : List ℕ) (upper : Bound) (high : List ℕ) {a b : Code} {x y : Bound} {r : Stepped} → Codes a (low_bytes lower low) → Codes b (high_bytes upper high)
+  pub between_by : (lower : Bound) (low : List ℕ) (upper : Bound) (high : List ℕ) {a b : Code} {x y : Bound} {r : Result KeyValue Refusal} → Codes a (low_bytes lower low) → Codes b (high_bytes upper high)
       → x ≡ low_kind lower → y ≡ high_kind upper → r ≡ step_rows h log (past_rows x (take a.len a.bytes) y (take b.len b.bytes) given last rs) → r ≡ step_rows h log (scan_rows lower low upper high given last rs)
   between_by lower low upper high wa wb ex ey er = er ∙ (λ j. step_rows h log (past_rows (ex j) (wa.says j) (ey j) (wb.says j) given last rs))
 
-  pub begun_by_lem : (p : List ℕ) {c : Code} {u : Upper} {r : Stepped} → Codes c (searched p) → Uppers (take c.len c.bytes) u
+  pub begun_by_lem : (p : List ℕ) {c : Code} {u : Upper} {r : Result KeyValue Refusal} → Codes c (searched p) → Uppers (take c.len c.bytes) u
       → r ≡ step_rows h log (past_rows Included (take c.len c.bytes) u.bound (take u.code.len u.code.bytes) given last rs) → r ≡ step_rows h log (prefix_rows p given last rs)
   begun_by_lem p {c} w z er =
       er ∙ (λ j. step_rows h log (past_rows Included (take c.len c.bytes) (z.bound j) (z.code.says j) given last rs))

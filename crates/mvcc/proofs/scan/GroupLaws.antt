@@ -2,13 +2,13 @@
 use Prim.Native.Nat.{ℕ}
 use mathlib.Core.Path.{◌≡◌, refl, sym, ap, ◌∙◌}
 use mathlib.Core.Bool.{Bool, true, false, not}
-use mathlib.Core.Option.{Option, none, some}
+use Rattle.std.specs.Prelude.{Option, None, Some}
 use mathlib.Core.List.{List, [], ◌∷◌}
+use Rattle.std.specs.declared.cmp.Ordering.{Ordering}
+use Rattle.std.specs.declared.cmp.Ordering.TheVariants.{Less, Equal, Greater}
 use Rattle.keycode.specs.Tests.{pick}
 use Rattle.keycode.specs.Order.{compare_bytes}
 use Rattle.keycode.specs.Strings.{escape_body, unescaped}
-use Rattle.keycode.specs.declared.order.Order.{Order}
-use Rattle.keycode.specs.declared.order.Order.TheVariants.{Less, Equal, Greater}
 use Rattle.keycode.proofs.Basics.{nope}
 use Rattle.keycode.proofs.OrderLaws.{compare_refl, compare_equal, compare_trans}
 use Rattle.keycode.proofs.StringLaws.{unescaped_body}
@@ -36,14 +36,14 @@ step_twice c gone x r = refl
 step_twice c bad x r = refl
 step_twice c (shows g) x r = refl
 
-step_unclean : (x : Sight) → step_by false x none ≡ none
+step_unclean : (x : Sight) → step_by false x None ≡ None
 step_unclean hidden = refl
 step_unclean gone = refl
 step_unclean bad = refl
 step_unclean (shows g) = refl
 
 -- behind a key that is no Version key
-step_junk : (b : Bool) (y x : Sight) → (b ≡ false → y ≡ hidden) → step_by (not b) (or_sight (or_sight y hidden) x) none ≡ pick b none (step_by true x none)
+step_junk : (b : Bool) (y x : Sight) → (b ≡ false → y ≡ hidden) → step_by (not b) (or_sight (or_sight y hidden) x) None ≡ pick b None (step_by true x None)
 step_junk true y x f = step_unclean (or_sight (or_sight y hidden) x)
 step_junk false y x f = rw (f refl)
 
@@ -52,7 +52,7 @@ step_junk false y x f = rw (f refl)
 pub user-same : (a b : List ℕ) → same_user a b ≡ true → a ≡ b
 user-same a b e = compare_equal a b (go (compare_bytes a b) e)
   where
-    go : (o : Order) → is_equal o ≡ true → o ≡ Equal
+    go : (o : Ordering) → is_equal o ≡ true → o ≡ Equal
     go Less q = nope (cc)
     go Equal q = refl
     go Greater q = nope (cc)
@@ -80,8 +80,8 @@ module _ (h : Handle) (k : List ℕ) where
       by false x f ih = rw (ih f)
 
       go : (o : Option Stamp) → pick (is_of k o) true (any_of k m) ≡ false → (any_of k m ≡ false → highest h k m ≡ hidden) → or_sight (highest h k m) (sight_for h k q.value o) ≡ hidden
-      go none f ih = rw (ih f)
-      go (some z) f ih = by (same_user k z.user) (sight_of h z q.value) f ih
+      go None f ih = rw (ih f)
+      go (Some z) f ih = by (same_user k z.user) (sight_of h z q.value) f ih
 
   any_clean : (m : List MapPair) → any_of k m ≡ false → clean_to k m ≡ true
   unfolding any_of clean_to
@@ -93,15 +93,15 @@ module _ (h : Handle) (k : List ℕ) where
       by false f = f
 
       go : (o : Option Stamp) → pick (is_of k o) true (any_of k m) ≡ false → (any_of k m ≡ false → clean_to k m ≡ true) → clean_by o (any_of k m) (clean_to k m) ≡ true
-      go none f ih = ap not f
-      go (some z) f ih = ih (by (same_user k z.user) f)
+      go None f ih = ap not f
+      go (Some z) f ih = ih (by (same_user k z.user) f)
 
 -- past a key of a later user key there is none
 module _ {b c : List ℕ} {s t : Stamp} (x : Spelt b s) (y : Spelt c t) (l : compare_bytes b c ≡ Less) (d : same_user s.user t.user ≡ false) where
   users_less : compare_bytes s.user t.user ≡ Less
   users_less = go (compare_bytes s.user t.user) refl
     where
-      go : (o : Order) → compare_bytes s.user t.user ≡ o → o ≡ Less
+      go : (o : Ordering) → compare_bytes s.user t.user ≡ o → o ≡ Less
       go Less e = refl
       go Equal e = let z : true ≡ false = ap is_equal (sym e) ∙ d in nope (cc)
       go Greater e = absurd (users_rise x y l e)
@@ -109,7 +109,7 @@ module _ {b c : List ℕ} {s t : Stamp} (x : Spelt b s) (y : Spelt c t) (l : com
   behind_less : {r : List ℕ} {w : Stamp} → Spelt r w → compare_bytes c r ≡ Less → compare_bytes s.user w.user ≡ Less
   behind_less {r} {w} v e = go (compare_bytes t.user w.user) refl
     where
-      go : (o : Order) → compare_bytes t.user w.user ≡ o → compare_bytes s.user w.user ≡ Less
+      go : (o : Ordering) → compare_bytes t.user w.user ≡ o → compare_bytes s.user w.user ≡ Less
       go Less q = compare_trans s.user t.user w.user users_less q
       go Equal q = ap (compare_bytes s.user) (sym (compare_equal t.user w.user q)) ∙ users_less
       go Greater q = absurd (users_rise y v e q)
@@ -118,8 +118,8 @@ module _ {b c : List ℕ} {s t : Stamp} (x : Spelt b s) (y : Spelt c t) (l : com
   behind-other r e = go (stamp_of r.key) refl
     where
       go : (o : Option Stamp) → stamp_of r.key ≡ o → is_of s.user o ≡ false
-      go none q = refl
-      go (some w) q = ap is_equal (behind_less (spelt r.key w q) e)
+      go None q = refl
+      go (Some w) q = ap is_equal (behind_less (spelt r.key w q) e)
 
   pub none_left : {rs : List Row} → All (λ (r : Row). compare_bytes c r.key ≡ Less) rs → any_of s.user (pairs rs) ≡ false
   unfolding any_of pairs
@@ -134,33 +134,33 @@ onward h u x m = step_by (clean_to u m) (or_sight (highest h u m) x) (step_pairs
 
 module _ (h : Handle) (q : MapPair) (m : List MapPair) where
   -- a pair more, by its stamp
-  high_by : (k : List ℕ) (z : Stamp) (b : Bool) → stamp_of q.key ≡ some z → same_user k z.user ≡ b → highest h k (q ∷ m) ≡ or_sight (highest h k m) (pick b (sight_of h z q.value) hidden)
+  high_by : (k : List ℕ) (z : Stamp) (b : Bool) → stamp_of q.key ≡ Some z → same_user k z.user ≡ b → highest h k (q ∷ m) ≡ or_sight (highest h k m) (pick b (sight_of h z q.value) hidden)
   unfolding highest
   high_by k z b e f =
       ap (λ (o : Option Stamp). or_sight (highest h k m) (sight_for h k q.value o)) e
       ∙ ap (λ (t : Bool). or_sight (highest h k m) (pick t (sight_of h z q.value) hidden)) f
 
-  clean_by_lem : (k : List ℕ) (z : Stamp) → stamp_of q.key ≡ some z → clean_to k (q ∷ m) ≡ clean_to k m
+  clean_by_lem : (k : List ℕ) (z : Stamp) → stamp_of q.key ≡ Some z → clean_to k (q ∷ m) ≡ clean_to k m
   unfolding clean_to
   clean_by_lem k z e = ap (λ (o : Option Stamp). clean_by o (any_of k m) (clean_to k m)) e
 
-  pub step-first : (z : Stamp) → stamp_of q.key ≡ some z → step_pairs h (q ∷ m) ≡ onward h z.user (sight_of h z q.value) m
+  pub step-first : (z : Stamp) → stamp_of q.key ≡ Some z → step_pairs h (q ∷ m) ≡ onward h z.user (sight_of h z q.value) m
   unfolding step_pairs onward
   step-first z e =
       ap (λ (o : Option Stamp). step_on h q m o (step_pairs h m)) e
       ∙ ap (λ (x : Sight). step_by (clean_to z.user m) x (step_pairs h m)) (high_by z.user z true e (same-user z.user z.user refl))
 
   module _ (u : List ℕ) (x : Sight) where
-    pub on_junk : stamp_of q.key ≡ none → onward h u x (q ∷ m) ≡ pick (any_of u m) none (step_by true x none)
+    pub on_junk : stamp_of q.key ≡ None → onward h u x (q ∷ m) ≡ pick (any_of u m) None (step_by true x None)
     unfolding onward step_pairs highest clean_to
     on_junk e = rw e (step_junk (any_of u m) (highest h u m) x (any_hidden h u m))
 
-    on_pair : (z : Stamp) (b : Bool) → stamp_of q.key ≡ some z → same_user u z.user ≡ b
+    on_pair : (z : Stamp) (b : Bool) → stamp_of q.key ≡ Some z → same_user u z.user ≡ b
         → onward h u x (q ∷ m) ≡ step_by (clean_to u m) (or_sight (or_sight (highest h u m) (pick b (sight_of h z q.value) hidden)) x) (onward h z.user (sight_of h z q.value) m)
     unfolding onward
     on_pair z b e f = λ j. step_by (clean_by_lem u z e j) (or_sight (high_by u z b e f j) x) (step-first z e j)
 
-    pub on_same : (z : Stamp) → stamp_of q.key ≡ some z → u ≡ z.user → onward h u (or_sight (sight_of h z q.value) x) m ≡ onward h u x (q ∷ m)
+    pub on_same : (z : Stamp) → stamp_of q.key ≡ Some z → u ≡ z.user → onward h u (or_sight (sight_of h z q.value) x) m ≡ onward h u x (q ∷ m)
     unfolding onward
     on_same z e f =
         let c : Bool = clean_to u m in
@@ -170,7 +170,7 @@ module _ (h : Handle) (q : MapPair) (m : List MapPair) where
         ∙ ap (λ (k : List ℕ). step_by c (or_sight (or_sight (highest h u m) y) x) (onward h k y m)) f
         ∙ sym (on_pair z true e (same-user u z.user f))
 
-    pub on_other : (z : Stamp) → stamp_of q.key ≡ some z → same_user u z.user ≡ false → any_of u m ≡ false → step_by true x (onward h z.user (sight_of h z q.value) m) ≡ onward h u x (q ∷ m)
+    pub on_other : (z : Stamp) → stamp_of q.key ≡ Some z → same_user u z.user ≡ false → any_of u m ≡ false → step_by true x (onward h z.user (sight_of h z q.value) m) ≡ onward h u x (q ∷ m)
     on_other z e d f =
         let o : Option (Option Given) = onward h z.user (sight_of h z q.value) m in
         sym (on_pair z false e d

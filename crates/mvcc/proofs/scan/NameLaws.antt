@@ -2,12 +2,16 @@
 use Prim.Native.Nat.{ℕ, zero, suc, ◌+◌, ◌-◌}
 use mathlib.Core.Path.{◌≡◌, refl, sym, ap, ◌∙◌}
 use mathlib.Core.Bool.{Bool, true, false}
-use mathlib.Core.Option.{some}
 use mathlib.Core.List.{List, [], ◌∷◌, ◌++◌, append_assoc}
 use native.Mathlib.Omega.{arith}
 use lib.Dec.{leb}
 use lib.ListN.{length, take, drop}
 use lib.Seq.{take_at}
+use Rattle.std.specs.Prelude.{Result, ℕ, Ok, Err, Some}
+use Rattle.keycode.specs.declared.strings.Fault.{Fault}
+use Rattle.keycode.specs.declared.refusal.Refusal.{Refusal}
+use Rattle.std.specs.declared.cmp.Ordering.{Ordering}
+use Rattle.std.specs.declared.cmp.Ordering.TheVariants.{Less, Greater}
 use Rattle.keycode.specs.Tests.{pick}
 use Rattle.keycode.specs.Limits.{max_key}
 use Rattle.keycode.specs.Number.{num}
@@ -16,16 +20,8 @@ use Rattle.keycode.specs.Strings.{escape_body, escape, unescaped, scanned, fault
 use Rattle.keycode.specs.key.Keys.{exactly, string_at, on_ended, key_of, decode_why, forget}
 use Rattle.keycode.specs.declared.parts.Part.{Part}
 use Rattle.keycode.specs.declared.strings.Reason.TheVariants.{TooFew, LeftOver}
-use Rattle.keycode.specs.declared.strings.Scanned.{Scanned}
-use Rattle.keycode.specs.declared.strings.Scanned.TheVariants.{Ended, Broken}
 use Rattle.keycode.specs.declared.key.Key.{Key}
 use Rattle.keycode.specs.declared.key.Key.TheVariants.{NextVersion, TxnActive, TxnActiveSnapshot, TxnWrite, Version, Unversioned}
-use Rattle.keycode.specs.declared.key.Decoded.{Decoded}
-use Rattle.keycode.specs.declared.key.Decoded.TheVariants.{Whole, Refused}
-use Rattle.keycode.specs.declared.key.Reading.{Reading}
-use Rattle.keycode.specs.declared.key.Reading.TheVariants.{Read, Faulty}
-use Rattle.keycode.specs.declared.order.Order.{Order}
-use Rattle.keycode.specs.declared.order.Order.TheVariants.{Less, Greater}
 use Rattle.keycode.proofs.Basics.{nope}
 use Rattle.keycode.proofs.OrderLaws.{same_head}
 use Rattle.keycode.proofs.StringLaws.{Found, scan_found, unescaped_body}
@@ -35,19 +31,19 @@ use Rattle.mvcc.specs.scan.Steps.{Stamp, stamp_by, stamp_of}
 
 -- ---- decoding, taken back
 
-exactly-whole : (n l : ℕ) (k j : Key) → forget (exactly n l k) ≡ Whole j → k ≡ j
+exactly-whole : (n l : ℕ) (k j : Key) → forget (exactly n l k) ≡ Ok j → k ≡ j
 unfolding exactly
 exactly-whole n l k j = go (leb n l) (leb l n)
   where
-    go : (a b : Bool) → forget (pick a (pick b (Read k) (Faulty (fault LeftOver n))) (Faulty (fault TooFew l))) ≡ Whole j → k ≡ j
+    go : (a b : Bool) → forget (pick a (pick b (Ok k) (Err (fault LeftOver n))) (Err (fault TooFew l))) ≡ Ok j → k ≡ j
     go true true e = cc
     go true false e = nope (cc)
     go false b e = nope (cc)
 
-ended-whole : (x : Scanned) (f : ℕ → Reading) (j : Key) → forget (on_ended x f) ≡ Whole j → (i : ℕ) × ((x ≡ Ended i) × (forget (f i) ≡ Whole j))
+ended-whole : (x : Result ℕ Fault) (f : ℕ → Result Key Fault) (j : Key) → forget (on_ended x f) ≡ Ok j → (i : ℕ) × ((x ≡ Ok i) × (forget (f i) ≡ Ok j))
 unfolding on_ended
-ended-whole (Ended i) f j e = (i, (refl, e))
-ended-whole (Broken w) f j e = nope (cc)
+ended-whole (Ok i) f j e = (i, (refl, e))
+ended-whole (Err w) f j e = nope (cc)
 
 -- the part of the key b that is its escaped string
 pub record Named (b : List ℕ) (p : Part) : Type 0 where
@@ -57,11 +53,11 @@ pub record Named (b : List ℕ) (p : Part) : Type 0 where
   pub long : p.len ≡ length (escape_body string)
   pub here : b ≡ 4 ∷ (escape string ++ rest)
 
-string_found : (i : ℕ) (r : List ℕ) → string_at max_key 1 (4 ∷ r) ≡ Ended i → Found max_key 1 i r
+string_found : (i : ℕ) (r : List ℕ) → string_at max_key 1 (4 ∷ r) ≡ Ok i → Found max_key 1 i r
 unfolding string_at
 string_found i r = go (leb 1 (length (4 ∷ r)))
   where
-    go : (t : Bool) → pick t (scanned max_key 1 r) (Broken (fault TooFew (length (4 ∷ r)))) ≡ Ended i → Found max_key 1 i r
+    go : (t : Bool) → pick t (scanned max_key 1 r) (Err (fault TooFew (length (4 ∷ r)))) ≡ Ok i → Found max_key 1 i r
     go true e = scan_found max_key 1 i r e
     go false e = nope (cc)
 
@@ -77,7 +73,7 @@ string_named i r p n v f e =
       here = ap (λ (x : List ℕ). 4 ∷ x) (f.here ∙ sym (append_assoc (escape_body f.string) (0 ∷ 0 ∷ []) f.rest));
     }
 
-pub version-named : (b : List ℕ) (p : Part) (v : ℕ) → forget (decode_why max_key b) ≡ Whole (Version p v) → Named b p
+pub version-named : (b : List ℕ) (p : Part) (v : ℕ) → forget (decode_why max_key b) ≡ Ok (Version p v) → Named b p
 unfolding decode_why key_of
 version-named [] p v e = nope (cc)
 version-named (zero ∷ r) p v e = let z = exactly-whole 1 (length (0 ∷ r)) NextVersion (Version p v) e in nope (cc)
@@ -110,26 +106,26 @@ pub record Spelt (b : List ℕ) (s : Stamp) : Type 0 where
   pub rest : List ℕ
   pub here : b ≡ 4 ∷ (escape s.user ++ rest)
 
-pub spelt : (b : List ℕ) (s : Stamp) → stamp_of b ≡ some s → Spelt b s
+pub spelt : (b : List ℕ) (s : Stamp) → stamp_of b ≡ Some s → Spelt b s
 unfolding stamp_of
 spelt b s = go (forget (decode_why max_key b)) refl
   where
-    go : (d : Decoded) → forget (decode_why max_key b) ≡ d → stamp_by b (label_by d) ≡ some s → Spelt b s
-    go (Whole NextVersion) e q = nope (cc)
-    go (Whole (TxnActive v)) e q = nope (cc)
-    go (Whole (TxnActiveSnapshot v)) e q = nope (cc)
-    go (Whole (TxnWrite v p)) e q = nope (cc)
-    go (Whole (Version p v)) e q =
+    go : (d : Result Key Refusal) → forget (decode_why max_key b) ≡ d → stamp_by b (label_by d) ≡ Some s → Spelt b s
+    go (Ok NextVersion) e q = nope (cc)
+    go (Ok (TxnActive v)) e q = nope (cc)
+    go (Ok (TxnActiveSnapshot v)) e q = nope (cc)
+    go (Ok (TxnWrite v p)) e q = nope (cc)
+    go (Ok (Version p v)) e q =
         let n = version-named b p v e in
         let z : record { user = unescaped (take p.len (drop p.at b)); version = v } ≡ s = cc in
         record { rest = n.rest; here = n.here ∙ ap (λ (x : List ℕ). 4 ∷ (escape x ++ n.rest)) (sym (named-user n) ∙ ap (λ (x : Stamp). x.user) z) }
-    go (Whole (Unversioned p)) e q = nope (cc)
-    go (Refused r) e q = nope (cc)
+    go (Ok (Unversioned p)) e q = nope (cc)
+    go (Err r) e q = nope (cc)
 
 -- user keys do not fall where keys rise
 pub users_rise : {a b : List ℕ} {s t : Stamp} → Spelt a s → Spelt b t → compare_bytes a b ≡ Less → compare_bytes s.user t.user ≡ Greater → ⊥
 users_rise {a} {b} {s} {t} x y l g =
     let q : compare_bytes a b ≡ and_then (compare_bytes s.user t.user) (compare_bytes x.rest y.rest) =
     rw (x.here, y.here) (same_head 4 (escape s.user ++ x.rest) (escape t.user ++ y.rest) ∙ string_sorts.sorted s.user t.user tt tt x.rest y.rest) in
-    let z : Greater ≡ Less = sym (q ∙ ap (λ (o : Order). and_then o (compare_bytes x.rest y.rest)) g) ∙ l in
+    let z : Greater ≡ Less = sym (q ∙ ap (λ (o : Ordering). and_then o (compare_bytes x.rest y.rest)) g) ∙ l in
     nope (cc)

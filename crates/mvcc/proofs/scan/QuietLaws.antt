@@ -4,11 +4,12 @@ use mathlib.Core.Path.{◌≡◌}
 use mathlib.Core.Bool.{Bool, true, false}
 use mathlib.Core.List.{List, [], ◌∷◌}
 use lib.Dec.{eqb}
+use Rattle.std.specs.Prelude.{Result, Ok, Err}
+use Rattle.bitcask.specs.declared.answers.KeyValue.{KeyValue}
+use Rattle.keycode.specs.declared.refusal.Refusal.{Refusal}
 use Rattle.keycode.specs.Tests.{pick}
 use Rattle.keycode.specs.declared.parts.Part.{Part}
 use Rattle.keycode.specs.declared.refusal.Refusal.TheVariants.{Absent, BadStore}
-use Rattle.bitcask.specs.declared.answers.Stepped.{Stepped}
-use Rattle.bitcask.specs.declared.answers.Stepped.TheVariants as Step
 use Rattle.bitcask.specs.read.Promises.{stepped_number}
 use Rattle.bitcask.specs.engine.Rows.{Row}
 use Rattle.mvcc.specs.declared.handle.Handle.{Handle}
@@ -21,10 +22,10 @@ use Rattle.mvcc.specs.declared.walk.Walk.{Walk}
 use Rattle.mvcc.specs.declared.walk.Walk.TheVariants.{Start, Within, Broken, Over}
 use Rattle.mvcc.specs.walk.Walks.{same_string, later_by, group_answer, closed_by, spoilt_by, next_walk, ended_by, walk_rows, step_rows}
 
-pub data Answers : Stepped → Type 0 where
-  gives : (k v : Part) → Answers (Step.Next k v)
-  ends : Answers (Step.Refused Absent)
-  breaks : Answers (Step.Refused BadStore)
+pub data Answers : Result KeyValue Refusal → Type 0 where
+  gives : (k v : Part) → Answers (Ok (record { key = k; value = v }))
+  ends : Answers (Err Absent)
+  breaks : Answers (Err BadStore)
 
 abbrev Quiet : Walk → Type 0
 Quiet w = Answers (ended_by w)
@@ -63,7 +64,7 @@ next_quiet log Start (Good k x) q = group_quiet k x
 next_quiet log (Within key x) Junk q = spoilt_quiet key x
 next_quiet log (Within key x) (Good k y) q = pick_quiet (same_string log key k) (later_by key x k y) (closed_by key k y x) (later_quiet key x k y) (closed_quiet key k y x)
 next_quiet log (Broken key v) Junk q = gives key v
-next_quiet log (Broken key v) (Good k y) q = pick_quiet (same_string log key k) (Over (Step.Refused BadStore)) (Over (Step.Next key v)) breaks (gives key v)
+next_quiet log (Broken key v) (Good k y) q = pick_quiet (same_string log key k) (Over (Err BadStore)) (Over (Ok (record { key = key; value = v }))) breaks (gives key v)
 next_quiet log (Over a) x q = q
 
 module _ (h : Handle) (log : List ℕ) where
@@ -77,7 +78,7 @@ module _ (h : Handle) (log : List ℕ) where
   step-answers rs = walk_quiet Start rs ends
 
 -- no number but 0, 1 and 12
-pub answers_quiet : (n : ℕ) → eqb 0 n ≡ false → eqb 1 n ≡ false → eqb 12 n ≡ false → {x : Stepped} → Answers x → eqb (stepped_number x) n ≡ false
+pub answers_quiet : (n : ℕ) → eqb 0 n ≡ false → eqb 1 n ≡ false → eqb 12 n ≡ false → {x : Result KeyValue Refusal} → Answers x → eqb (stepped_number x) n ≡ false
 answers_quiet n a b c (gives k v) = a
 answers_quiet n a b c ends = b
 answers_quiet n a b c breaks = c

@@ -2,25 +2,24 @@
 use Prim.Native.Nat.{ℕ}
 use mathlib.Core.Path.{◌≡◌, refl, sym, ap, ◌∙◌}
 use mathlib.Core.Bool.{Bool, true, false}
-use mathlib.Core.Option.{Option, none, some}
 use mathlib.Core.List.{List, [], ◌∷◌}
 use lib.Dec.{eqb}
 use lib.ListN.{length}
+use Rattle.std.specs.Prelude.{Result, ⊤, Ok, Err, Option, None, Some}
+use Rattle.keycode.specs.declared.refusal.Refusal.{Refusal}
+use Rattle.bitcask.specs.declared.answers.KeyValue.{KeyValue}
+use Rattle.std.specs.declared.cmp.Ordering.TheVariants.{Less}
 use Rattle.keycode.specs.Tests.{pick}
 use Rattle.keycode.specs.Refusals.{number_of}
 use Rattle.keycode.specs.Order.{compare_bytes}
 use Rattle.keycode.specs.Strings.{escape_body}
 use Rattle.keycode.specs.declared.parts.Part.{Part}
 use Rattle.keycode.specs.declared.refusal.Refusal.TheVariants.{BadStore}
-use Rattle.keycode.specs.declared.order.Order.TheVariants.{Less}
 use Rattle.keycode.proofs.Basics.{nope}
 use Rattle.bitcask.specs.keydir.Place.{All, all_more}
 use Rattle.bitcask.specs.recovery.Map.{Pair as MapPair, pairs_of}
 use Rattle.bitcask.specs.recovery.Recover.{map_of}
 use Rattle.bitcask.specs.recovery.Agree.{fit, Agrees}
-use Rattle.bitcask.specs.declared.append.Check.{Check}
-use Rattle.bitcask.specs.declared.answers.Stepped.{Stepped}
-use Rattle.bitcask.specs.declared.answers.Stepped.TheVariants as Step
 use Rattle.bitcask.specs.read.Promises.{stepped_number}
 use Rattle.bitcask.specs.engine.Rows.{Row, pairs, rows_in, Stands}
 use Rattle.bitcask.specs.engine.Ranges.{keep_rows}
@@ -48,13 +47,13 @@ use Rattle.mvcc.proofs.scan.GroupLaws.{user-same, same_users, none_left, onward,
 -- ---- answers by the bytes at their places
 
 abbrev escaped_step : Option (Option Given) → Option (Option Given)
-escaped_step none = none
-escaped_step (some none) = some none
-escaped_step (some (some g)) = some (some (raw g))
+escaped_step None = None
+escaped_step (Some None) = Some None
+escaped_step (Some (Some g)) = Some (Some (raw g))
 
-abbrev shown_step : List ℕ → Stepped → Option (Option Given)
-shown_step log (Step.Next k v) = some (some (record { user = part_of log k; value = part_of log v }))
-shown_step log (Step.Refused r) = pick (eqb (number_of r) 1) (some none) none
+abbrev shown_step : List ℕ → Result KeyValue Refusal → Option (Option Given)
+shown_step log (Ok p) = Some (Some (record { user = part_of log p.key; value = part_of log p.value }))
+shown_step log (Err r) = pick (eqb (number_of r) 1) (Some None) None
 
 or_escaped : (a b : Sight) → or_sight (escaped a) (escaped b) ≡ escaped (or_sight a b)
 or_escaped hidden b = refl
@@ -69,11 +68,11 @@ step_escaped c bad r = refl
 step_escaped true (shows g) r = refl
 step_escaped false (shows g) r = refl
 
-pick_escaped : (b : Bool) (x : Sight) → pick b none (step_by true (escaped x) none) ≡ escaped_step (pick b none (step_by true x none))
+pick_escaped : (b : Bool) (x : Sight) → pick b None (step_by true (escaped x) None) ≡ escaped_step (pick b None (step_by true x None))
 pick_escaped true x = refl
-pick_escaped false x = step_escaped true x none
+pick_escaped false x = step_escaped true x None
 
-pick-none : (b : Bool) → none ≡ pick {A = Option (Option Given)} b none none
+pick-none : (b : Bool) → None ≡ pick {A = Option (Option Given)} b None None
 pick-none true = refl
 pick-none false = refl
 
@@ -89,7 +88,7 @@ record Rest (log : List ℕ) (s : Stamp) (rs : List Row) : Type 0 where
   rises : Rises rs
   stand : All (Stands log) rs
 
-rest_first : {log : List ℕ} {r : Row} {rs : List Row} {z : Stamp} → Rises (r ∷ rs) → All (Stands log) (r ∷ rs) → stamp_of r.key ≡ some z → Rest log z rs
+rest_first : {log : List ℕ} {r : Row} {rs : List Row} {z : Stamp} → Rises (r ∷ rs) → All (Stands log) (r ∷ rs) → stamp_of r.key ≡ Some z → Rest log z rs
 rest_first {r = r} {z = z} (rises-more a o) (all_more w st) e = record { bytes = r.key; spells = spelt r.key z e; over = a; rises = o; stand = st }
 
 stands_here : {log : List ℕ} {r : Row} {rs : List Row} → All (Stands log) (r ∷ rs) → Stands log r
@@ -102,7 +101,7 @@ module _ {log : List ℕ} {s : Stamp} {r : Row} {rs : List Row} (w : Rest log s 
       go : All (λ (x : Row). compare_bytes w.bytes x.key ≡ Less) (r ∷ rs) → Rises (r ∷ rs) → All (Stands log) (r ∷ rs) → Rest log s rs
       go (all_more e a) (rises-more c o) (all_more i st) = record { bytes = w.bytes; spells = w.spells; over = a; rises = o; stand = st }
 
-  rest_none : {z : Stamp} → stamp_of r.key ≡ some z → same_user s.user z.user ≡ false → any_of s.user (pairs rs) ≡ false
+  rest_none : {z : Stamp} → stamp_of r.key ≡ Some z → same_user s.user z.user ≡ false → any_of s.user (pairs rs) ≡ false
   rest_none {z} f d = go w.over w.rises
     where
       go : All (λ (x : Row). compare_bytes w.bytes x.key ≡ Less) (r ∷ rs) → Rises (r ∷ rs) → any_of s.user (pairs rs) ≡ false
@@ -118,12 +117,12 @@ module _ (h : Handle) (log : List ℕ) where
   abbrev from : Walk → List Row → Option (Option Given)
   from w rs = shown_step log (ended_by (walk_rows h log w rs))
 
-  over-stays : (a : Stepped) (rs : List Row) → from (Over a) rs ≡ shown_step log a
+  over-stays : (a : Result KeyValue Refusal) (rs : List Row) → from (Over a) rs ≡ shown_step log a
   unfolding walk_rows
   over-stays a [] = refl
   over-stays a (r ∷ rs) = over-stays a rs
 
-  answer-shown : (k : Part) (x : Seen) → shown_step log (group_answer k x) ≡ step_by true (shown log k x) (some none)
+  answer-shown : (k : Part) (x : Seen) → shown_step log (group_answer k x) ≡ step_by true (shown log k x) (Some None)
   answer-shown k Hidden = refl
   answer-shown k Gone = refl
   answer-shown k Bad = refl
@@ -132,12 +131,12 @@ module _ (h : Handle) (log : List ℕ) where
   closed_shown : (key k : Part) (y x : Seen) (rs : List Row) → from (closed_by key k y x) rs ≡ step_by true (shown log key x) (from (Within k y) rs)
   closed_shown key k y Hidden rs = refl
   closed_shown key k y Gone rs = refl
-  closed_shown key k y Bad rs = over-stays (Step.Refused BadStore) rs
-  closed_shown key k y (Value v) rs = over-stays (Step.Next key v) rs
+  closed_shown key k y Bad rs = over-stays (Err BadStore) rs
+  closed_shown key k y (Value v) rs = over-stays (Ok (record { key = key; value = v })) rs
 
   -- behind a key that is no Version key
   broken_shown : (rs : List Row) (s : Stamp) → Rest log s rs → (key v : Part) → part_of log key ≡ escape_body s.user
-      → from (Broken key v) rs ≡ pick (any_of s.user (pairs rs)) none (shown_step log (Step.Next key v))
+      → from (Broken key v) rs ≡ pick (any_of s.user (pairs rs)) None (shown_step log (Ok (record { key = key; value = v })))
   unfolding walk_rows any_of pairs
   broken_shown [] s w key v e = refl
   broken_shown (r ∷ rs) s w key v e = go (told h log r (stands_here w.stand)) (broken_shown rs s (rest_more w) key v e)
@@ -146,29 +145,29 @@ module _ (h : Handle) (log : List ℕ) where
       u = s.user
 
       a : Option (Option Given)
-      a = shown_step log (Step.Next key v)
+      a = shown_step log (Ok (record { key = key; value = v }))
 
       by : (z : Stamp) (b : Bool) → same_user u z.user ≡ b → (same_user u z.user ≡ false → any_of u (pairs rs) ≡ false)
-          → from (pick b (Over (Step.Refused BadStore)) (Over (Step.Next key v))) rs ≡ pick (pick b true (any_of u (pairs rs))) none a
-      by z true d f = over-stays (Step.Refused BadStore) rs
-      by z false d f = over-stays (Step.Next key v) rs ∙ ap (λ (b : Bool). pick b none a) (sym (f d))
+          → from (pick b (Over (Err BadStore)) (Over (Ok (record { key = key; value = v })))) rs ≡ pick (pick b true (any_of u (pairs rs))) None a
+      by z true d f = over-stays (Err BadStore) rs
+      by z false d f = over-stays (Ok (record { key = key; value = v })) rs ∙ ap (λ (b : Bool). pick b None a) (sym (f d))
 
-      go : Told h log r (record_row h r) (stamp_of r.key) → from (Broken key v) rs ≡ pick (any_of u (pairs rs)) none a
-          → from (broken_by log key v (record_row h r)) rs ≡ pick (pick (is_of u (stamp_of r.key)) true (any_of u (pairs rs))) none a
+      go : Told h log r (record_row h r) (stamp_of r.key) → from (Broken key v) rs ≡ pick (any_of u (pairs rs)) None a
+          → from (broken_by log key v (record_row h r)) rs ≡ pick (pick (is_of u (stamp_of r.key)) true (any_of u (pairs rs))) None a
       go (junk p q) ih =
           ap (λ (x : Record). from (broken_by log key v x) rs) p ∙ ih
-          ∙ ap (λ (o : Option Stamp). pick (pick (is_of u o) true (any_of u (pairs rs))) none a) (sym q)
+          ∙ ap (λ (o : Option Stamp). pick (pick (is_of u o) true (any_of u (pairs rs))) None a) (sym q)
       go (good k y z p q f g) ih =
           ap (λ (x : Record). from (broken_by log key v x) rs) p
-          ∙ ap (λ (b : Bool). from (pick b (Over (Step.Refused BadStore)) (Over (Step.Next key v))) rs) (strings log key k u z.user e f)
+          ∙ ap (λ (b : Bool). from (pick b (Over (Err BadStore)) (Over (Ok (record { key = key; value = v })))) rs) (strings log key k u z.user e f)
           ∙ by z (same_user u z.user) refl (rest_none w q)
-          ∙ ap (λ (o : Option Stamp). pick (pick (is_of u o) true (any_of u (pairs rs))) none a) (sym q)
+          ∙ ap (λ (o : Option Stamp). pick (pick (is_of u o) true (any_of u (pairs rs))) None a) (sym q)
 
   spoilt_shown : (rs : List Row) (s : Stamp) → Rest log s rs → (key : Part) (x : Seen) → part_of log key ≡ escape_body s.user
-      → from (spoilt_by key x) rs ≡ pick (any_of s.user (pairs rs)) none (step_by true (shown log key x) none)
-  spoilt_shown rs s w key Hidden e = over-stays (Step.Refused BadStore) rs ∙ pick-none (any_of s.user (pairs rs))
-  spoilt_shown rs s w key Gone e = over-stays (Step.Refused BadStore) rs ∙ pick-none (any_of s.user (pairs rs))
-  spoilt_shown rs s w key Bad e = over-stays (Step.Refused BadStore) rs ∙ pick-none (any_of s.user (pairs rs))
+      → from (spoilt_by key x) rs ≡ pick (any_of s.user (pairs rs)) None (step_by true (shown log key x) None)
+  spoilt_shown rs s w key Hidden e = over-stays (Err BadStore) rs ∙ pick-none (any_of s.user (pairs rs))
+  spoilt_shown rs s w key Gone e = over-stays (Err BadStore) rs ∙ pick-none (any_of s.user (pairs rs))
+  spoilt_shown rs s w key Bad e = over-stays (Err BadStore) rs ∙ pick-none (any_of s.user (pairs rs))
   spoilt_shown rs s w key (Value v) e = broken_shown rs s w key v e
 
   -- a group with one version more says what the later one does, if the handle sees that, at its own place
@@ -183,7 +182,7 @@ module _ (h : Handle) (log : List ℕ) where
   within-shown : (rs : List Row) (s : Stamp) → Rest log s rs → (key : Part) (x : Seen) (y : Sight) → part_of log key ≡ escape_body s.user → shown log key x ≡ escaped y
       → from (Within key x) rs ≡ escaped_step (onward h s.user y (pairs rs))
   unfolding walk_rows pairs onward highest clean_to step_pairs
-  within-shown [] s w key x y e f = answer-shown key x ∙ ap (λ (z : Sight). step_by true z (some none)) f ∙ step_escaped true y (some none)
+  within-shown [] s w key x y e f = answer-shown key x ∙ ap (λ (z : Sight). step_by true z (Some None)) f ∙ step_escaped true y (Some None)
   within-shown (r ∷ rs) s w key x y e f =
       go (told h log r (stands_here w.stand)) (λ t v k i o c d. within-shown rs t v k i o c d)
     where
@@ -196,7 +195,7 @@ module _ (h : Handle) (log : List ℕ) where
           → from (within_by log key x (record_row h r)) rs ≡ escaped_step (onward h u y (pair_of r ∷ pairs rs))
       go (junk p q) ih =
           ap (λ (n : Record). from (within_by log key x n) rs) p ∙ spoilt_shown rs s (rest_more w) key x e
-          ∙ ap (λ (z : Sight). pick (any_of u (pairs rs)) none (step_by true z none)) f ∙ pick_escaped (any_of u (pairs rs)) y
+          ∙ ap (λ (z : Sight). pick (any_of u (pairs rs)) None (step_by true z None)) f ∙ pick_escaped (any_of u (pairs rs)) y
           ∙ ap escaped_step (sym (on_junk h (pair_of r) (pairs rs) u y q))
       go (good k i z p q c d) ih =
           ap (λ (n : Record). from (within_by log key x n) rs) p
@@ -223,7 +222,7 @@ module _ (h : Handle) (log : List ℕ) where
     where
       go : Told h log r (record_row h r) (stamp_of r.key) → from (opened_by (record_row h r)) rs ≡ escaped_step (step_on h (pair_of r) (pairs rs) (stamp_of r.key) (step_pairs h (pairs rs)))
       go (junk p q) =
-          ap (λ (x : Record). from (opened_by x) rs) p ∙ over-stays (Step.Refused BadStore) rs
+          ap (λ (x : Record). from (opened_by x) rs) p ∙ over-stays (Err BadStore) rs
           ∙ ap (λ (b : Option Stamp). escaped_step (step_on h (pair_of r) (pairs rs) b (step_pairs h (pairs rs)))) (sym q)
       go (good k x z p q c d) =
           ap (λ (n : Record). from (opened_by n) rs) p ∙ within-shown rs z (rest_first o st q) k x (sight_of h z r.value) c d
@@ -237,40 +236,40 @@ module _ (h : Handle) (log : List ℕ) where
 -- ---- the promise
 
 module _ (log : List ℕ) where
-  answer-number : {x : Stepped} (o : Option (Option Given)) → Answers x → shown_step log x ≡ escaped_step o → stepped_number x ≡ step_number o
-  answer-number none (gives k v) e = nope (cc)
-  answer-number none ends e = nope (cc)
-  answer-number none breaks e = refl
-  answer-number (some none) (gives k v) e = nope (cc)
-  answer-number (some none) ends e = refl
-  answer-number (some none) breaks e = nope (cc)
-  answer-number (some (some g)) (gives k v) e = refl
-  answer-number (some (some g)) ends e = nope (cc)
-  answer-number (some (some g)) breaks e = nope (cc)
+  answer-number : {x : Result KeyValue Refusal} (o : Option (Option Given)) → Answers x → shown_step log x ≡ escaped_step o → stepped_number x ≡ step_number o
+  answer-number None (gives k v) e = nope (cc)
+  answer-number None ends e = nope (cc)
+  answer-number None breaks e = refl
+  answer-number (Some None) (gives k v) e = nope (cc)
+  answer-number (Some None) ends e = refl
+  answer-number (Some None) breaks e = nope (cc)
+  answer-number (Some (Some g)) (gives k v) e = refl
+  answer-number (Some (Some g)) ends e = nope (cc)
+  answer-number (Some (Some g)) breaks e = nope (cc)
 
-  given-bytes : (o : Option (Option Given)) (k v : Part) → shown_step log (Step.Next k v) ≡ escaped_step o → GivenAt log o k v
-  given-bytes none k v e = nope (cc)
-  given-bytes (some none) k v e = nope (cc)
-  given-bytes (some (some g)) k v e =
+  given-bytes : (o : Option (Option Given)) (k v : Part) → shown_step log (Ok (record { key = k; value = v })) ≡ escaped_step o → GivenAt log o k v
+  given-bytes None k v e = nope (cc)
+  given-bytes (Some None) k v e = nope (cc)
+  given-bytes (Some (Some g)) k v e =
       let q : record { user = part_of log k; value = part_of log v } ≡ raw g = cc in
       record { pair = g; first = refl; key = ap (λ (x : Given). x.user) q; value = ap (λ (x : Given). x.value) q }
 
-checked-number : (c : Check) (x : Stepped) → stepped_number (checked_step c x) ≡ on_fine c (stepped_number x) (check_number c)
-checked-number Check.Fine x = refl
-checked-number (Check.Refused r) x = refl
+checked-number : (c : Result ⊤ Refusal) (x : Result KeyValue Refusal) → stepped_number (checked_step c x) ≡ on_fine c (stepped_number x) (check_number c)
+checked-number (Ok tt) x = refl
+checked-number (Err r) x = refl
 
-checked-next : (c : Check) (x : Stepped) (k v : Part) → checked_step c x ≡ Step.Next k v → x ≡ Step.Next k v
-checked-next Check.Fine x k v e = e
-checked-next (Check.Refused r) x k v e = nope (cc)
+checked-next : (c : Result ⊤ Refusal) (x : Result KeyValue Refusal) (k v : Part) → checked_step c x ≡ Ok (record { key = k; value = v }) → x ≡ Ok (record { key = k; value = v })
+checked-next (Ok tt) x k v e = e
+checked-next (Err r) x k v e = nope (cc)
 
-module _ {log : List ℕ} {used : ℕ} {t : List ℕ} {h : Handle} {short : Bool} {test : List ℕ → Bool} {r : Stepped} (a : Agrees log used t) (w : Scanning log used t h short test r) where
+module _ {log : List ℕ} {used : ℕ} {t : List ℕ} {h : Handle} {short : Bool} {test : List ℕ → Bool} {r : Result KeyValue Refusal} (a : Agrees log used t) (w : Scanning log used t h short test r) where
   -- the pairs of the map whose keys the test admits decide what follows the checks
   pub scan_shows : Shows (keys_by (admit_by (fit (length log) used (length t)) (sound_handle h) (open_in log used h)) short) h (pairs_of test (map_of log used)) log r
   unfolding scan_answer
   scan_shows =
-      let c : Check = keys_by (admit_by (fit (length log) used (length t)) (sound_handle h) (open_in log used h)) short in
+      let c : (Result ⊤ Refusal) = keys_by (admit_by (fit (length log) used (length t)) (sound_handle h) (open_in log used h)) short in
       let rs : List Row = keep_rows test (rows_in log used) in
-      let x : Stepped = step_rows h log rs in
+      let x : (Result KeyValue Refusal) = step_rows h log rs in
       let o : Option (Option Given) = step_pairs h (pairs_of test (map_of log used)) in
       let e : shown_step log x ≡ escaped_step o =
       step-shown h log rs (keep-rises test (in_rises log used)) (keep_all test (in_stand log used)) ∙ ap (λ (m : List MapPair). escaped_step (step_pairs h m)) (keep_in test log used) in

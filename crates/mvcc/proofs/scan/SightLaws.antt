@@ -2,19 +2,19 @@
 use Prim.Native.Nat.{ℕ, ◌+◌, ◌-◌, ◌≤◌}
 use mathlib.Core.Path.{◌≡◌, refl, sym, ap, ◌∙◌}
 use mathlib.Core.Bool.{Bool, true, false}
-use mathlib.Core.Option.{Option, none, some}
 use mathlib.Core.List.{List}
 use native.Mathlib.Omega.{arith}
 use lib.ListN.{length, take, drop, length-append}
 use lib.Seq.{take-take, drop-drop}
+use Rattle.std.specs.Prelude.{Result, Ok, Err, Option, None, Some}
+use Rattle.keycode.specs.declared.key.Key.{Key}
+use Rattle.keycode.specs.declared.refusal.Refusal.{Refusal}
 use Rattle.keycode.specs.Tests.{pick}
 use Rattle.keycode.specs.Limits.{max_key}
 use Rattle.keycode.specs.Strings.{escape_body, escape, unescaped}
 use Rattle.keycode.specs.key.Keys.{decode_why, forget}
 use Rattle.keycode.specs.declared.parts.Part.{Part}
 use Rattle.keycode.specs.declared.key.Key.TheVariants.{NextVersion, TxnActive, TxnActiveSnapshot, TxnWrite, Version, Unversioned}
-use Rattle.keycode.specs.declared.key.Decoded.{Decoded}
-use Rattle.keycode.specs.declared.key.Decoded.TheVariants.{Whole, Refused}
 use Rattle.keycode.proofs.StringLaws.{escape-length}
 use Rattle.bitcask.specs.engine.Rows.{Row, key_place, value_place, Stands}
 use Rattle.mvcc.specs.declared.handle.Handle.{Handle}
@@ -82,22 +82,22 @@ module _ (log : List ℕ) (r : Row) (w : Stands log r) where
 
 -- what a record is, of a row whose key has a stamp or none
 pub data Told (h : Handle) (log : List ℕ) (r : Row) (x : Record) (stamp : Option Stamp) : Type 0 where
-  junk : x ≡ Junk → stamp ≡ none → Told h log r x stamp
-  good : (k : Part) (i : Seen) (z : Stamp) → x ≡ Good k i → stamp ≡ some z → part_of log k ≡ escape_body z.user → shown log k i ≡ escaped (sight_of h z r.value) → Told h log r x stamp
+  junk : x ≡ Junk → stamp ≡ None → Told h log r x stamp
+  good : (k : Part) (i : Seen) (z : Stamp) → x ≡ Good k i → stamp ≡ Some z → part_of log k ≡ escape_body z.user → shown log k i ≡ escaped (sight_of h z r.value) → Told h log r x stamp
 
 pub told : (h : Handle) (log : List ℕ) (r : Row) → Stands log r → Told h log r (record_row h r) (stamp_of r.key)
 unfolding record_row stamp_of
 told h log r w = go (forget (decode_why max_key r.key)) refl
   where
-    go : (d : Decoded) → forget (decode_why max_key r.key) ≡ d → Told h log r (record_by h r (label_by d)) (stamp_by r.key (label_by d))
-    go (Whole NextVersion) e = junk refl refl
-    go (Whole (TxnActive v)) e = junk refl refl
-    go (Whole (TxnActiveSnapshot v)) e = junk refl refl
-    go (Whole (TxnWrite v p)) e = junk refl refl
-    go (Whole (Version p v)) e =
+    go : (d : Result Key Refusal) → forget (decode_why max_key r.key) ≡ d → Told h log r (record_by h r (label_by d)) (stamp_by r.key (label_by d))
+    go (Ok NextVersion) e = junk refl refl
+    go (Ok (TxnActive v)) e = junk refl refl
+    go (Ok (TxnActiveSnapshot v)) e = junk refl refl
+    go (Ok (TxnWrite v p)) e = junk refl refl
+    go (Ok (Version p v)) e =
         let z : Stamp = record { user = unescaped (take p.len (drop p.at r.key)); version = v } in
         let k : Part = string_part (key_place r) p.len in
         let q : part_of log k ≡ escape_body z.user = key-bytes log r w (version-named r.key p v e) in
         good k (seen_as h (row_says r) v) z refl refl q (seen_shown log r w k z q h)
-    go (Whole (Unversioned p)) e = junk refl refl
-    go (Refused x) e = junk refl refl
+    go (Ok (Unversioned p)) e = junk refl refl
+    go (Err x) e = junk refl refl

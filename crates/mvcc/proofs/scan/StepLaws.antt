@@ -5,14 +5,13 @@ use mathlib.Core.Bool.{Bool, true, false, not}
 use mathlib.Core.List.{List}
 use lib.Dec.{eqb}
 use lib.ListN.{length}
+use Rattle.std.specs.Prelude.{Result, ⊤, Ok, Err}
+use Rattle.bitcask.specs.declared.answers.KeyValue.{KeyValue}
 use Rattle.keycode.specs.Tests.{pick}
 use Rattle.keycode.specs.declared.refusal.Refusal.{Refusal}
 use Rattle.keycode.specs.declared.refusal.Refusal.TheVariants.{KeyTooLong}
 use Rattle.bitcask.specs.declared.request.Used.{Used}
 use Rattle.bitcask.specs.recovery.Agree.{fit}
-use Rattle.bitcask.specs.declared.append.Check.{Check}
-use Rattle.bitcask.specs.declared.answers.Stepped.{Stepped}
-use Rattle.bitcask.specs.declared.answers.Stepped.TheVariants as Step
 use Rattle.bitcask.specs.read.Promises.{stepped_number}
 use Rattle.bitcask.specs.declared.engine.mark.Mark.{Mark}
 use Rattle.bitcask.specs.engine.Rows.{Row, rows, rows_in}
@@ -23,8 +22,6 @@ use Rattle.mvcc.specs.declared.handle.Handle.{Handle}
 use Rattle.mvcc.specs.handle.Handles.{sound_handle}
 use Rattle.mvcc.specs.request.Checks.{active_key, open_by, admit_by}
 use Rattle.mvcc.proofs.request.CheckLaws.{open_never, open_ever, behind, behind-bad, behind-never, behind-ever, behind-long}
-use Rattle.mvcc.specs.declared.admission.Admitted.{Admitted}
-use Rattle.mvcc.specs.declared.admission.Admitted.TheVariants.{Fine, Refused}
 use Rattle.mvcc.specs.admission.Admits.{check_of, Admits}
 use Rattle.mvcc.proofs.admission.AdmitLaws.{open_rows}
 use Rattle.mvcc.specs.walk.Walks.{step_rows}
@@ -37,14 +34,14 @@ both_by ex ey er = er ∙ rw (ex, ey)
 -- ---- the numbers
 
 -- that of what follows the checks of every call
-abbrev late_number : Bool → Stepped → ℕ
+abbrev late_number : Bool → Result KeyValue Refusal → ℕ
 late_number b x = pick b (stepped_number x) 4
 
-number_behind : (c : Check) (b : Bool) (x : Stepped) → stepped_number (checked_step (keys_by c b) x) ≡ behind c (late_number b x)
+number_behind : (c : Result ⊤ Refusal) (b : Bool) (x : Result KeyValue Refusal) → stepped_number (checked_step (keys_by c b) x) ≡ behind c (late_number b x)
 unfolding keys_by
-number_behind Check.Fine true x = refl
-number_behind Check.Fine false x = refl
-number_behind (Check.Refused r) b x = refl
+number_behind (Ok tt) true x = refl
+number_behind (Ok tt) false x = refl
+number_behind (Err r) b x = refl
 
 module _ (h : Handle) (log : List ℕ) (rs : List Row) where
   late-bad : (b : Bool) → eqb (late_number b (step_rows h log rs)) 13 ≡ false
@@ -66,15 +63,15 @@ module _ (log : List ℕ) (used : Used) (t : List ℕ) (h : Handle) (short : Boo
   abbrev live : Bool
   live = has_row (active_key h) (rows log t (mark_of used t))
 
-  abbrev check : Check
+  abbrev check : Result ⊤ Refusal
   check = admit_by (fit (length log) used.len (length t)) (sound_handle h) (open_by h live)
 
-  scanning : {r : Stepped} → r ≡ checked_step (keys_by check short) (step_rows h log (rs (mark_of used t))) → Scanning log used.len t h short test r
+  scanning : {r : Result KeyValue Refusal} → r ≡ checked_step (keys_by check short) (step_rows h log (rs (mark_of used t))) → Scanning log used.len t h short test r
   unfolding scan_answer
   scanning {r} e =
       let f : Bool = fit (length log) used.len (length t) in
       let g : Bool = sound_handle h in
-      let x : Stepped = step_rows h log (rs (mark_of used t)) in
+      let x : (Result KeyValue Refusal) = step_rows h log (rs (mark_of used t)) in
       let n : stepped_number r ≡ behind (admit_by f g (open_by h live)) (late_number short x) = ap stepped_number e ∙ number_behind (admit_by f g (open_by h live)) short x in
       record {
         bad = ap (λ (k : ℕ). eqb k 13) n ∙ behind-bad (late_number short x) f g (open_by h live) (late-bad h log (rs (mark_of used t)) short);
@@ -85,19 +82,19 @@ module _ (log : List ℕ) (used : Used) (t : List ℕ) (h : Handle) (short : Boo
             ∙ (λ j. checked_step (keys_by (admit_by f g (open_rows log used t h a j)) short) (step_rows h log (same (mark_of used t) (record { agrees = a; count = refl }) j)));
       }
 
-  module _ {a : Admitted} (w : Admits log used t h a) where
-    pub scan_refused : (x : Refusal) → a ≡ Refused x → Scanning log used.len t h short test (Step.Refused x)
+  module _ {a : Result Mark Refusal} (w : Admits log used t h a) where
+    pub scan_refused : (x : Refusal) → a ≡ Err x → Scanning log used.len t h short test (Err x)
     unfolding keys_by
-    scan_refused x e = scanning (ap (λ (c : Check). checked_step (keys_by c short) (step_rows h log (rs (mark_of used t)))) (sym (ap check_of e) ∙ w.check))
+    scan_refused x e = scanning (ap (λ (c : Result ⊤ Refusal). checked_step (keys_by c short) (step_rows h log (rs (mark_of used t)))) (sym (ap check_of e) ∙ w.check))
 
-    module _ (m : Mark) (e : a ≡ Fine m) {b : Bool} (eb : b ≡ short) where
-      fine_by : (v : Bool) → b ≡ v → checked_step (keys_by Check.Fine v) (step_rows h log (rs (mark_of used t))) ≡ checked_step (keys_by check short) (step_rows h log (rs (mark_of used t)))
+    module _ (m : Mark) (e : a ≡ Ok m) {b : Bool} (eb : b ≡ short) where
+      fine_by : (v : Bool) → b ≡ v → checked_step (keys_by (Ok tt) v) (step_rows h log (rs (mark_of used t))) ≡ checked_step (keys_by check short) (step_rows h log (rs (mark_of used t)))
       fine_by v q = λ j. checked_step (keys_by ((sym (ap check_of e) ∙ w.check) j) ((sym q ∙ eb) j)) (step_rows h log (rs (mark_of used t)))
 
-      pub scan_long : b ≡ false → Scanning log used.len t h short test (Step.Refused KeyTooLong)
+      pub scan_long : b ≡ false → Scanning log used.len t h short test (Err KeyTooLong)
       unfolding keys_by
       scan_long q = scanning (fine_by false q)
 
-      pub scan_done : b ≡ true → {r : Stepped} → r ≡ step_rows h log (rs m) → Scanning log used.len t h short test r
+      pub scan_done : b ≡ true → {r : Result KeyValue Refusal} → r ≡ step_rows h log (rs m) → Scanning log used.len t h short test r
       unfolding keys_by
       scan_done q er = scanning (er ∙ ap (λ (k : Mark). step_rows h log (rs k)) (w.mark m e) ∙ fine_by true q)

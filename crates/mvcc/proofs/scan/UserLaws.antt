@@ -5,12 +5,12 @@ use mathlib.Core.Path.{◌≡◌, refl, sym, ap, ◌∙◌}
 use mathlib.Core.Bool.{Bool, true, false}
 use mathlib.Core.List.{List, [], ◌∷◌}
 use native.Mathlib.Omega.{arith}
+use Rattle.std.specs.declared.cmp.Ordering.{Ordering}
+use Rattle.std.specs.declared.cmp.Ordering.TheVariants.{Less, Equal, Greater}
 use Rattle.keycode.specs.Tests.{pick}
 use Rattle.keycode.specs.Order.{compare_nat, compare_bytes, and_then}
 use Rattle.keycode.specs.key.Keys.{encode, version}
 use Rattle.keycode.specs.Prefix.{searched}
-use Rattle.keycode.specs.declared.order.Order.{Order}
-use Rattle.keycode.specs.declared.order.Order.TheVariants.{Less, Equal, Greater}
 use Rattle.keycode.proofs.Basics.{Ordered, below, same, above, ordered}
 use Rattle.keycode.proofs.OrderLaws.{nat_less, nat_equal, nat_greater}
 use Rattle.keycode.proofs.key.KeyOrder.{order-version}
@@ -24,11 +24,11 @@ use Rattle.mvcc.specs.scan.Bounds.{last_version, low_kind, low_bytes, high_kind,
 
 -- ---- versions do not decide
 
-module _ (o : Order) where
+module _ (o : Ordering) where
   from_first : (v : ℕ) → (admits_low Included (and_then o (compare_nat v 0)) ≡ admits_low Included o) × (admits_high Excluded (and_then o (compare_nat v 0)) ≡ admits_high Excluded o)
   from_first v = go o (ordered v 0)
     where
-      go : (x : Order) → Ordered v 0 → (admits_low Included (and_then x (compare_nat v 0)) ≡ admits_low Included x) × (admits_high Excluded (and_then x (compare_nat v 0)) ≡ admits_high Excluded x)
+      go : (x : Ordering) → Ordered v 0 → (admits_low Included (and_then x (compare_nat v 0)) ≡ admits_low Included x) × (admits_high Excluded (and_then x (compare_nat v 0)) ≡ admits_high Excluded x)
       go Less d = (refl, refl)
       go Greater d = (refl, refl)
       go Equal (below h) = absurd (omega arith)
@@ -38,7 +38,7 @@ module _ (o : Order) where
   to_last : (v : ℕ) → v ≤ last_version → (admits_low Excluded (and_then o (compare_nat v last_version)) ≡ admits_low Excluded o) × (admits_high Included (and_then o (compare_nat v last_version)) ≡ admits_high Included o)
   to_last v l = go o (ordered v last_version)
     where
-      go : (x : Order) → Ordered v last_version
+      go : (x : Ordering) → Ordered v last_version
           → (admits_low Excluded (and_then x (compare_nat v last_version)) ≡ admits_low Excluded x) × (admits_high Included (and_then x (compare_nat v last_version)) ≡ admits_high Included x)
       go Less d = (refl, refl)
       go Greater d = (refl, refl)

@@ -2,12 +2,12 @@
 use Prim.Native.Nat.{ℕ, suc, ◌+◌, ◌-◌, ◌≤◌, ◌<◌}
 use mathlib.Core.Path.{◌≡◌, refl, sym, ap, ◌∙◌}
 use mathlib.Core.Bool.{Bool, true, false}
-use mathlib.Core.Option.{Option, none, some}
 use mathlib.Core.List.{List, [], ◌∷◌}
 use native.Mathlib.Omega.{arith}
 use lib.Dec.{leb}
 use lib.ListN.{length, take, drop}
 use borrow.Author.Tests.{ne_eqb, eq-eqb, leb-true, leb-false}
+use Rattle.std.specs.Prelude.{Result, Ok, Err, Option, ℕ, Some, None}
 use Rattle.keycode.specs.Number.{num}
 use Rattle.keycode.specs.key.Keys.{encode, next_version}
 use Rattle.keycode.specs.Prefix.{prefix_end}
@@ -17,8 +17,6 @@ use Rattle.bitcask.specs.declared.answers.Bound.TheVariants.{Included}
 use Rattle.bitcask.specs.declared.engine.mark.Mark.{Mark}
 use Rattle.bitcask.specs.declared.engine.span.Span.{Span}
 use Rattle.bitcask.specs.declared.engine.spot.Spot.{Spot}
-use Rattle.bitcask.specs.declared.engine.spot.Found.{Found}
-use Rattle.bitcask.specs.declared.engine.spot.Found.TheVariants.{At, Absent}
 use Rattle.bitcask.specs.engine.Rows.{Row, rows}
 use Rattle.bitcask.specs.engine.Marks.{Held}
 use Rattle.bitcask.specs.engine.Spots.{rank, row_at, placed, place_by, look_row}
@@ -29,40 +27,37 @@ use Rattle.bitcask.proofs.engine.LookLaws.{found_row, absent_row}
 use Rattle.bitcask.proofs.engine.RangeLaws.{span_range}
 use Rattle.bitcask.proofs.engine.SpanLaws.{from_next, from_end}
 use Rattle.mvcc.specs.declared.handle.Handle.{Handle}
-use Rattle.mvcc.specs.declared.payload.VersionRead.{VersionRead}
-use Rattle.mvcc.specs.declared.payload.VersionRead.TheVariants.{Read, Bad as BadVersion}
 use Rattle.mvcc.specs.handle.Handles.{handle_of, with_version, with_all}
 use Rattle.mvcc.specs.payload.Payloads.{version_in}
 use Rattle.mvcc.specs.request.Ranges.{active_prefix}
 use Rattle.mvcc.specs.declared.snapshot.Seen.{Seen}
-use Rattle.mvcc.specs.declared.snapshot.Tally.TheVariants.{Open}
 use Rattle.mvcc.specs.snapshot.Active.{next_by, next_of, next_in, active_in, cons_read, versions_in, keys_in, active_rows, bad_seen, seen_from, seen_by}
 
 -- ---- NextVersion
 
-pub next_own : {r : VersionRead} (v : ℕ) → r ≡ Read v → (v ≡ 0 → ⊥) → Read v ≡ next_by r
+pub next_own : {r : Option ℕ} (v : ℕ) → r ≡ Some v → (v ≡ 0 → ⊥) → Some v ≡ next_by r
 next_own v e n = rw (e, ne_eqb v 0 n)
 
-module _ (rs : List Row) (c : Code) (w : Codes c (encode next_version)) (f : Found) (says : placed f rs ≡ place_by (take c.len c.bytes) rs) (p : Spot) where
+module _ (rs : List Row) (c : Code) (w : Codes c (encode next_version)) (f : Result Spot Spot) (says : placed f rs ≡ place_by (take c.len c.bytes) rs) (p : Spot) where
   next_row : look_row (take c.len c.bytes) rs ≡ look_row (encode next_version) rs
   next_row = ap (λ (k : List ℕ). look_row k rs) w.says
 
-  pub next_missing : f ≡ Absent p → Read 1 ≡ next_in rs
+  pub next_missing : f ≡ Err p → Some 1 ≡ next_in rs
   unfolding next_in next_of
   next_missing e = rw (← next_row, absent_row (take c.len c.bytes) rs says p e)
 
-  pub next_found : f ≡ At p → {b : List ℕ} {r q : VersionRead} → b ≡ (row_at p rs).value → r ≡ version_in b → q ≡ next_by r → q ≡ next_in rs
+  pub next_found : f ≡ Ok p → {b : List ℕ} {r q : Option ℕ} → b ≡ (row_at p rs).value → r ≡ version_in b → q ≡ next_by r → q ≡ next_in rs
   unfolding next_in next_of
   next_found e eb er eq = rw (← next_row, found_row (take c.len c.bytes) rs says p e, eq, er, eb)
 
 -- ---- the version of a key
 
 module _ (key : List ℕ) where
-  pub active_other : (length key ≡ 9 → ⊥) → BadVersion ≡ active_in key
+  pub active_other : (length key ≡ 9 → ⊥) → None ≡ active_in key
   unfolding active_in
   active_other n = rw (ne_eqb (length key) 9 n)
 
-  pub active_own : length key ≡ 9 → {s : List ℕ} {v : ℕ} → s ≡ take 8 (drop 1 key) → v ≡ num s → Read v ≡ active_in key
+  pub active_own : length key ≡ 9 → {s : List ℕ} {v : ℕ} → s ≡ take 8 (drop 1 key) → v ≡ num s → Some v ≡ active_in key
   unfolding active_in
   active_own h es ev = rw (eq-eqb (length key) 9 h, ev, es)
 
@@ -76,16 +71,16 @@ pub record Gathering (rs : List Row) (from to : Spot) (start handle : Handle) (n
 pub gather_start : (rs : List Row) (from to : Spot) (start : Handle) → Gathering rs from to start start 0 from
 gather_start rs from to start = record { near = omega arith; so = refl }
 
-seen_bad : (n : ℕ) (h : Handle) (o : Option (List ℕ)) → seen_from n h (cons_read BadVersion o) ≡ bad_seen
+seen_bad : (n : ℕ) (h : Handle) (o : Option (List ℕ)) → seen_from n h (cons_read None o) ≡ bad_seen
 unfolding seen_from
 seen_bad n h o = refl
 
-seen_more : (n : ℕ) (h : Handle) (v : ℕ) (o : Option (List ℕ)) → seen_from n h (cons_read (Read v) o) ≡ seen_from (n + 1) (with_version h v) o
+seen_more : (n : ℕ) (h : Handle) (v : ℕ) (o : Option (List ℕ)) → seen_from n h (cons_read (Some v) o) ≡ seen_from (n + 1) (with_version h v) o
 unfolding seen_from with_all
-seen_more n h v none = refl
-seen_more n h v (some vs) =
+seen_more n h v None = refl
+seen_more n h v (Some vs) =
     let e : n + suc (length vs) ≡ n + 1 + length vs = omega arith in
-    λ j. record { tally = Open (e j); handle = with_all (with_version h v) vs }
+    λ j. record { tally = Some (e j); handle = with_all (with_version h v) vs }
 
 -- the rows of a span, by its first
 span-over : (rs : List Row) (at to : Spot) → rank to rs ≤ rank at rs → rank to rs ≤ length rs → between at to rs ≡ []
@@ -103,13 +98,13 @@ span-first rs at to h k = from_next rs (rank at rs) (rank to rs) h k
 -- whether it is over is told by ranks
 module _ {rs : List Row} {from to : Spot} {start handle : Handle} {n : ℕ} {at : Spot} (w : Gathering rs from to start handle n at) (k : rank to rs ≤ length rs)
     {b : Bool} (eb : b ≡ leb (rank to rs) (rank at rs)) where
-  pub gather_end : b ≡ true → record { tally = Open n; handle = handle } ≡ seen_from 0 start (versions_in (keys_in (between from to rs)))
+  pub gather_end : b ≡ true → record { tally = Some n; handle = handle } ≡ seen_from 0 start (versions_in (keys_in (between from to rs)))
   unfolding seen_from versions_in keys_in with_all
   gather_end q =
       let h : rank to rs ≤ rank at rs = leb-true (rank to rs) (rank at rs) (sym eb ∙ q) in
       let d : between at to rs ≡ [] = span-over rs at to h k in
       let e : n ≡ n + 0 = omega arith in
-      (λ j. record { tally = Open (e j); handle = handle }) ∙ ap (λ (l : List Row). seen_from n handle (versions_in (keys_in l))) (sym d) ∙ w.so
+      (λ j. record { tally = Some (e j); handle = handle }) ∙ ap (λ (l : List Row). seen_from n handle (versions_in (keys_in l))) (sym d) ∙ w.so
 
   module _ (q : b ≡ false) where
     before : rank at rs < rank to rs
@@ -118,25 +113,25 @@ module _ {rs : List Row} {from to : Spot} {start handle : Handle} {n : ℕ} {at 
     pub gather_stands : rank at rs < length rs
     gather_stands = omega (arith, before)
 
-    module _ {key : List ℕ} (ek : key ≡ (row_at at rs).key) {r : VersionRead} (read : r ≡ active_in key) where
+    module _ {key : List ℕ} (ek : key ≡ (row_at at rs).key) {r : Option ℕ} (read : r ≡ active_in key) where
       gather_on : (next : Spot) → rank next rs ≡ rank at rs + 1
           → seen_from n handle (cons_read r (versions_in (keys_in (between next to rs)))) ≡ seen_from 0 start (versions_in (keys_in (between from to rs)))
       unfolding versions_in keys_in
       gather_on next en =
           let z : suc (rank at rs) ≡ rank next rs = omega arith in
           let d : between at to rs ≡ row_at at rs ∷ between next to rs = span-next rs at to next before k z in
-          ap (λ (x : VersionRead). seen_from n handle (cons_read x (versions_in (keys_in (between next to rs))))) (read ∙ ap active_in ek)
+          ap (λ (x : Option ℕ). seen_from n handle (cons_read x (versions_in (keys_in (between next to rs))))) (read ∙ ap active_in ek)
           ∙ ap (λ (l : List Row). seen_from n handle (versions_in (keys_in l))) (sym d) ∙ w.so
 
-      pub gather_bad : {y : Seen} → r ≡ BadVersion → y ≡ bad_seen → y ≡ seen_from 0 start (versions_in (keys_in (between from to rs)))
+      pub gather_bad : {y : Seen} → r ≡ None → y ≡ bad_seen → y ≡ seen_from 0 start (versions_in (keys_in (between from to rs)))
       unfolding versions_in keys_in
       gather_bad {y} e f =
           let d : between at to rs ≡ row_at at rs ∷ rows_from (suc (rank at rs)) (rank to rs) rs = span-first rs at to before k in
           f ∙ sym (seen_bad n handle (versions_in (keys_in (rows_from (suc (rank at rs)) (rank to rs) rs))))
-          ∙ ap (λ (x : VersionRead). seen_from n handle (cons_read x (versions_in (keys_in (rows_from (suc (rank at rs)) (rank to rs) rs))))) (sym e ∙ read ∙ ap active_in ek)
+          ∙ ap (λ (x : Option ℕ). seen_from n handle (cons_read x (versions_in (keys_in (rows_from (suc (rank at rs)) (rank to rs) rs))))) (sym e ∙ read ∙ ap active_in ek)
           ∙ ap (λ (l : List Row). seen_from n handle (versions_in (keys_in l))) (sym d) ∙ w.so
 
-      pub gather_more : (v : ℕ) {h : Handle} → r ≡ Read v → h ≡ with_version handle v → (next : Spot) → rank next rs ≡ rank at rs + 1 → Gathering rs from to start h (n + 1) next
+      pub gather_more : (v : ℕ) {h : Handle} → r ≡ Some v → h ≡ with_version handle v → (next : Spot) → rank next rs ≡ rank at rs + 1 → Gathering rs from to start h (n + 1) next
       gather_more v e f next en = record {
         near = omega (arith, w.near);
         so = rw f (sym (seen_more n handle v (versions_in (keys_in (between next to rs)))) ∙ rw e at (gather_on next en));
@@ -160,9 +155,9 @@ pub actives_seen : (rs : List Row) (start : Handle) (r : Span) {q : Seen} → Pr
     → q ≡ seen_from 0 start (versions_in (keys_in (between r.from r.to rs))) → q ≡ seen_from 0 start (versions_in (keys_in (active_rows rs)))
 actives_seen rs start r w e = e ∙ ap (λ (l : List Row). seen_from 0 start (versions_in (keys_in l))) (active_rows_lem rs r w)
 
-pub round_bad : (ro : Bool) {v r : VersionRead} (o : Option (List ℕ)) {q : Seen} → r ≡ v → r ≡ BadVersion → q ≡ bad_seen → q ≡ seen_by ro v o
+pub round_bad : (ro : Bool) {v r : Option ℕ} (o : Option (List ℕ)) {q : Seen} → r ≡ v → r ≡ None → q ≡ bad_seen → q ≡ seen_by ro v o
 round_bad ro o er e f = rw (← er, e, f)
 
-pub round_seen : (ro : Bool) {x r : VersionRead} (o : Option (List ℕ)) (v : ℕ) {h : Handle} {q : Seen} → r ≡ x → r ≡ Read v → h ≡ handle_of v ro [] → q ≡ seen_from 0 h o
+pub round_seen : (ro : Bool) {x r : Option ℕ} (o : Option (List ℕ)) (v : ℕ) {h : Handle} {q : Seen} → r ≡ x → r ≡ Some v → h ≡ handle_of v ro [] → q ≡ seen_from 0 h o
     → q ≡ seen_by ro x o
 round_seen ro o v er e eh eq = rw (← er, e, eq, eh)

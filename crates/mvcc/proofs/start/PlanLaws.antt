@@ -5,17 +5,16 @@ use mathlib.Core.List.{List, [], ◌∷◌, ◌++◌, append-nil}
 use native.Mathlib.Omega.{arith}
 use lib.ListN.{length, take, drop, drop_of_length-le}
 use lib.Seq.{take_at}
+use Rattle.std.specs.Prelude.{Result, Ok, Err}
+use Rattle.std.specs.declared.cmp.Ordering.TheVariants.{Less}
 use Rattle.keycode.specs.Buffer.{put}
 use Rattle.keycode.specs.Order.{compare_nat, compare_bytes}
 use Rattle.keycode.specs.key.Keys.{encode, next_version, txn_active, txn_active_snapshot}
-use Rattle.keycode.specs.declared.order.Order.TheVariants.{Less}
 use Rattle.keycode.specs.declared.code.Code.{Code}
 use Rattle.keycode.specs.code.Codes.{Codes}
 use Rattle.keycode.proofs.BufferLaws.{put_front}
 use Rattle.keycode.specs.declared.refusal.Refusal.{Refusal}
 use Rattle.bitcask.specs.declared.request.Used.{Used}
-use Rattle.bitcask.specs.declared.request.Changed.{Changed}
-use Rattle.bitcask.specs.declared.request.Changed.TheVariants as Change
 use Rattle.bitcask.specs.declared.engine.mark.Mark.{Mark}
 use Rattle.mvcc.specs.declared.handle.Handle.{Handle}
 use Rattle.mvcc.specs.handle.Handles.{set_of}
@@ -54,7 +53,7 @@ own_less v wb wc = rw (wb.says, wc.says) (own_first _ _)
 
 -- ---- the entries
 
-module _ (log t : List ℕ) (m : Mark) (k v : ℕ) (p : List ℕ) (a b : Code) (value : List ℕ) (r : Changed) (log' t' : List ℕ) (wa : Codes a (encode next_version)) (wb : Codes b (encode (txn_active v)))
+module _ (log t : List ℕ) (m : Mark) (k v : ℕ) (p : List ℕ) (a b : Code) (value : List ℕ) (r : Result Used Refusal) (log' t' : List ℕ) (wa : Codes a (encode next_version)) (wb : Codes b (encode (txn_active v)))
     (ev : value ≡ version_bytes (v + 1)) where
   pub plan_two : k ≡ 0 → Appends log t m (pair_of (take a.len a.bytes) value (take b.len b.bytes) []) r log' t' → Appends log t m (plan_by k v p) r log' t'
   unfolding plan_by snapshot_by
@@ -71,21 +70,21 @@ module _ (log t : List ℕ) (m : Mark) (k v : ℕ) (p : List ℕ) (a b : Code) (
 
 -- ---- the handle that comes with the answer
 
-module _ (log t : List ℕ) (m : Mark) (k : ℕ) (h : Handle) {p : List ℕ} (ep : p ≡ set_bytes (set_of h)) {c : Changed} {log' t' : List ℕ}
+module _ (log t : List ℕ) (m : Mark) (k : ℕ) (h : Handle) {p : List ℕ} (ep : p ≡ set_bytes (set_of h)) {c : Result Used Refusal} {log' t' : List ℕ}
     (w : Appends log t m (plan_by k h.version p) c log' t') where
-  same_answer : (x : Changed) → x ≡ c → Appends log t m (plan_by k h.version (set_bytes (set_of h))) x log' t'
+  same_answer : (x : Result Used Refusal) → x ≡ c → Appends log t m (plan_by k h.version (set_bytes (set_of h))) x log' t'
   same_answer x e =
-      subst (λ (y : Changed). Appends log t m (plan_by k h.version (set_bytes (set_of h))) y log' t') (sym e)
+      subst (λ (y : Result Used Refusal). Appends log t m (plan_by k h.version (set_bytes (set_of h))) y log' t') (sym e)
       (subst (λ (b : List ℕ). Appends log t m (plan_by k h.version b) c log' t') ep w)
 
-  pub start_refused : {r : Begun} (y : Refusal) → c ≡ Change.Refused y → r ≡ refused_by y
+  pub start_refused : {r : Begun} (y : Refusal) → c ≡ Err y → r ≡ refused_by y
       → (r ≡ begun_by r.answer h) × Appends log t m (plan_by k h.version (set_bytes (set_of h))) r.answer log' t'
   start_refused {r} y e q =
-      let z : r.answer ≡ Change.Refused y = ap (λ (x : Begun). x.answer) q in
-      (q ∙ ap (λ (x : Changed). begun_by x h) (sym z), same_answer r.answer (z ∙ sym e))
+      let z : r.answer ≡ Err y = ap (λ (x : Begun). x.answer) q in
+      (q ∙ ap (λ (x : Result Used Refusal). begun_by x h) (sym z), same_answer r.answer (z ∙ sym e))
 
-  pub start_given : {r : Begun} (u : Used) → c ≡ Change.Done u → r ≡ begun_with u.len h
+  pub start_given : {r : Begun} (u : Used) → c ≡ Ok u → r ≡ begun_with u.len h
       → (r ≡ begun_by r.answer h) × Appends log t m (plan_by k h.version (set_bytes (set_of h))) r.answer log' t'
   start_given {r} u e q =
-      let z : r.answer ≡ Change.Done u = ap (λ (x : Begun). x.answer) q in
-      (q ∙ ap (λ (x : Changed). begun_by x h) (sym z), same_answer r.answer (z ∙ sym e))
+      let z : r.answer ≡ Ok u = ap (λ (x : Begun). x.answer) q in
+      (q ∙ ap (λ (x : Result Used Refusal). begun_by x h) (sym z), same_answer r.answer (z ∙ sym e))

@@ -3,12 +3,12 @@ use Prim.Native.Nat.{ℕ, zero, suc, ◌+◌, ◌-◌, ◌*◌, ◌^◌, ◌≤�
 use mathlib.Core.Path.{◌≡◌, refl, sym, ap, ◌∙◌, subst}
 use mathlib.Core.Bool.{Bool, true, false}
 use mathlib.Core.Logic.{◌⊎◌, inl, inr}
-use mathlib.Core.Option.{Option, none, some}
 use mathlib.Core.List.{List, [], ◌∷◌}
 use native.Mathlib.Omega.{arith}
 use lib.Dec.{ltb, eqb}
 use lib.ListN.{length, set}
 use borrow.Author.Tests.{le-leb, lt-leb, eq-eqb, ne_eqb}
+use Rattle.std.specs.Prelude.{Result, Ok, Err, Option, ℕ, Some, None}
 use Rattle.keycode.specs.Tests.{pick}
 use Rattle.keycode.specs.Limits.{max_open}
 use Rattle.keycode.specs.Refusals.{number_of}
@@ -20,20 +20,14 @@ use Rattle.keycode.proofs.BufferLaws.{refused_stays}
 use Rattle.keycode.proofs.NumberLaws.{Bytes}
 use Rattle.bitcask.specs.entry.Entry.{Entry}
 use Rattle.bitcask.specs.declared.request.Used.{Used}
-use Rattle.bitcask.specs.declared.request.Changed.{Changed}
-use Rattle.bitcask.specs.declared.request.Changed.TheVariants as Change
 use Rattle.bitcask.specs.recovery.Recover.{map_of}
 use Rattle.bitcask.specs.recovery.Agree.{fit, Agrees}
 use Rattle.bitcask.specs.change.Append.{bytes_all, append_answer}
 use Rattle.bitcask.specs.declared.engine.mark.Mark.{Mark}
-use Rattle.bitcask.specs.declared.engine.mark.Entered.{Entered}
-use Rattle.bitcask.specs.declared.engine.mark.Entered.TheVariants as Entering
 use Rattle.bitcask.specs.engine.Rows.{rows}
 use Rattle.bitcask.specs.engine.Marks.{mark_of, entered_by, Held}
 use Rattle.bitcask.proofs.engine.SpotLaws.{in_fits, in_held, in_agreeing, refused_fits}
 use Rattle.mvcc.specs.declared.handle.Handle.{Handle}
-use Rattle.mvcc.specs.declared.payload.VersionRead.{VersionRead}
-use Rattle.mvcc.specs.declared.payload.VersionRead.TheVariants.{Read, Bad as BadVersion}
 use Rattle.mvcc.specs.handle.Handles.{set_of, handle_of, blank_handle, with_version, with_all}
 use Rattle.mvcc.specs.payload.Payloads.{set_bytes}
 use Rattle.mvcc.proofs.handle.HandleLaws.{made_all, made_set}
@@ -43,7 +37,6 @@ use Rattle.mvcc.proofs.request.CheckLaws.{not_done}
 use Rattle.mvcc.specs.append.Appends.{Appends}
 use Rattle.mvcc.proofs.append.GrowLaws.{grows}
 use Rattle.mvcc.specs.declared.snapshot.Seen.{Seen}
-use Rattle.mvcc.specs.declared.snapshot.Tally.TheVariants.{Open, Bad}
 use Rattle.mvcc.specs.declared.begun.Begun.{Begun}
 use Rattle.mvcc.specs.snapshot.Active.{next_in, versions_in, keys_in, active_rows, seen_from, seen_by, next_at, active_at}
 use Rattle.mvcc.specs.start.Plan.{snapshot_by, plan_by, begin_plan, plan_of}
@@ -61,28 +54,28 @@ plan-sets (suc k) v p = sets_more (sets_more (sets_more sets-none))
 
 -- ---- what was seen where nothing is bad
 
-pub record SeenOpen (nv : VersionRead) (o : Option (List ℕ)) (k : ℕ) (h : Handle) : Type 0 where
+pub record SeenOpen (nv : Option ℕ) (o : Option (List ℕ)) (k : ℕ) (h : Handle) : Type 0 where
   pub v : ℕ
   pub vs : List ℕ
-  pub version : nv ≡ Read v
-  pub all : o ≡ some vs
+  pub version : nv ≡ Some v
+  pub all : o ≡ Some vs
   pub many : k ≡ length vs
   pub handle : h ≡ with_all (handle_of v false []) vs
 
-pub seen_open : (nv : VersionRead) (o : Option (List ℕ)) (k : ℕ) {s : Seen} → s ≡ seen_by false nv o → s.tally ≡ Open k → SeenOpen nv o k s.handle
+pub seen_open : (nv : Option ℕ) (o : Option (List ℕ)) (k : ℕ) {s : Seen} → s ≡ seen_by false nv o → s.tally ≡ Some k → SeenOpen nv o k s.handle
 unfolding seen_from
-seen_open BadVersion o k e t = let q : Bad ≡ Open k = ap (λ (x : Seen). x.tally) (sym e) ∙ t in nope (cc)
-seen_open (Read v) none k e t = let q : Bad ≡ Open k = ap (λ (x : Seen). x.tally) (sym e) ∙ t in nope (cc)
-seen_open (Read v) (some vs) k e t =
-    let q : Open (0 + length vs) ≡ Open k = ap (λ (x : Seen). x.tally) (sym e) ∙ t in
+seen_open None o k e t = let q : None ≡ Some k = ap (λ (x : Seen). x.tally) (sym e) ∙ t in nope (cc)
+seen_open (Some v) None k e t = let q : None ≡ Some k = ap (λ (x : Seen). x.tally) (sym e) ∙ t in nope (cc)
+seen_open (Some v) (Some vs) k e t =
+    let q : Some (0 + length vs) ≡ Some k = ap (λ (x : Seen). x.tally) (sym e) ∙ t in
     let z : 0 + length vs ≡ k = cc in
     record { v = v; vs = vs; version = refl; all = refl; many = omega arith; handle = ap (λ (x : Seen). x.handle) e }
 
-bad-answer : (log : List ℕ) (used words : ℕ) (nv : VersionRead) (o : Option (List ℕ)) {s : Seen} → s ≡ seen_by false nv o → s.tally ≡ Bad → refused_by BadStore ≡ begin_by log used words nv o
+bad-answer : (log : List ℕ) (used words : ℕ) (nv : Option ℕ) (o : Option (List ℕ)) {s : Seen} → s ≡ seen_by false nv o → s.tally ≡ None → refused_by BadStore ≡ begin_by log used words nv o
 unfolding seen_from
-bad-answer log used words BadVersion o e t = refl
-bad-answer log used words (Read v) none e t = refl
-bad-answer log used words (Read v) (some vs) e t = let q : Open (0 + length vs) ≡ Bad = ap (λ (x : Seen). x.tally) (sym e) ∙ t in nope (cc)
+bad-answer log used words None o e t = refl
+bad-answer log used words (Some v) None e t = refl
+bad-answer log used words (Some v) (Some vs) e t = let q : Some (0 + length vs) ≡ None = ap (λ (x : Seen). x.tally) (sym e) ∙ t in nope (cc)
 
 with_version_lem : (h : Handle) (x : ℕ) → (with_version h x).version ≡ h.version
 unfolding with_version
@@ -101,7 +94,7 @@ made_version : (v : ℕ) (vs : List ℕ) → (handle_of v false vs).version ≡ 
 unfolding handle_of
 made_version v vs = refl
 
-module _ {nv : VersionRead} {o : Option (List ℕ)} {k : ℕ} {h : Handle} (w : SeenOpen nv o k h) where
+module _ {nv : Option ℕ} {o : Option (List ℕ)} {k : ℕ} {h : Handle} (w : SeenOpen nv o k h) where
   seen_version : h.version ≡ w.v
   seen_version = ap (λ (x : Handle). x.version) w.handle ∙ all-version (handle_of w.v false []) w.vs ∙ made_version w.v []
 
@@ -126,8 +119,8 @@ judged-number n (inl e) = rw e
 judged-number n (inr (inl e)) = rw e
 judged-number n (inr (inr e)) = rw e
 
-module _ (log : List ℕ) (used : Used) (t : List ℕ) {a : Entered} (ea : a ≡ entered_by log used t) where
-  pub begin_sizes : {r : Begun} (x : Refusal) → a ≡ Entering.Refused x → r ≡ refused_by x → Begins log used.len t r log t
+module _ (log : List ℕ) (used : Used) (t : List ℕ) {a : Result Mark Refusal} (ea : a ≡ entered_by log used t) where
+  pub begin_sizes : {r : Begun} (x : Refusal) → a ≡ Err x → r ≡ refused_by x → Begins log used.len t r log t
   begin_sizes {r} x e q =
       let w = refused_fits log used t a ea x e in
       let z : r ≡ refused_by BadRequest = q ∙ ap refused_by w.1 in
@@ -144,9 +137,9 @@ module _ (log : List ℕ) (used : Used) (t : List ℕ) {a : Entered} (ea : a ≡
         map = λ g y. nope (cc);
       })
 
-  module _ (m : Mark) (e : a ≡ Entering.In m) (b : Bytes log) where
+  module _ (m : Mark) (e : a ≡ Ok m) (b : Bytes log) where
     -- what was seen, for any table
-    abbrev next_seen : VersionRead
+    abbrev next_seen : Option ℕ
     next_seen = next_in (rows log t m)
 
     abbrev open_seen : Option (List ℕ)
@@ -183,13 +176,13 @@ module _ (log : List ℕ) (used : Used) (t : List ℕ) {a : Entered} (ea : a ≡
     -- the answer of the append, by what the plan and the handle are
     module _ (v : ℕ) (vs : List ℕ) (few : length vs ≤ max_open)
         (judged : begin_by log used.len (length t) next_seen open_seen ≡ begun_by (append_answer log used.len (length t) (begin_plan v vs)) (handle_of v false vs)) {log' t' : List ℕ} where
-      by_answer : (c : Changed) → Appends log t (mark_of used t) (begin_plan v vs) c log' t' → Begins log used.len t (begun_by c (handle_of v false vs)) log' t'
-      by_answer (Change.Refused y) w =
+      by_answer : (c : Result Used Refusal) → Appends log t (mark_of used t) (begin_plan v vs) c log' t' → Begins log used.len t (begun_by c (handle_of v false vs)) log' t'
+      by_answer (Err y) w =
           let el : log' ≡ log = w.leaves.bytes ∙ sym (refused_stays y (put log used.len (bytes_all (begin_plan v vs))) log) in
           let et : t' ≡ t = w.leaves.words ∙ sym (refused_stays y t' t) in
-          let z = refuses y (judged-number (number_of y) w.numbers) refl (λ g. ap (λ (c : Changed). begun_by c (handle_of v false vs)) (w.answer g) ∙ sym judged) in
+          let z = refuses y (judged-number (number_of y) w.numbers) refl (λ g. ap (λ (c : Result Used Refusal). begun_by c (handle_of v false vs)) (w.answer g) ∙ sym judged) in
           subst (λ (l : List ℕ). Begins log used.len t (refused_by y) l t') (sym el) (subst (λ (x : List ℕ). Begins log used.len t (refused_by y) log x) (sym et) z)
-      by_answer (Change.Done u) w =
+      by_answer (Ok u) w =
           let q : plan_of (handle_of v false vs) ≡ begin_plan v vs = plan_made v vs few in
           record {
             bytes = w.leaves.bytes ∙ ap (λ (es : List Entry). put log used.len (bytes_all es)) (sym q);
@@ -198,16 +191,16 @@ module _ (log : List ℕ) (used : Used) (t : List ℕ) {a : Entered} (ea : a ≡
             ends = λ x z. rw q (w.leaves.ends x z);
             blank = refl;
             bad = rw fits;
-            answer = λ g. ap (λ (c : Changed). begun_by c (handle_of v false vs)) (w.answer g) ∙ sym judged ∙ in_map g;
+            answer = λ g. ap (λ (c : Result Used Refusal). begun_by c (handle_of v false vs)) (w.answer g) ∙ sym judged ∙ in_map g;
             again = λ g z. rw q (w.leaves.again g refl);
             map = λ g z. rw q (grows g (plan-sets (length vs) v (set_bytes vs)) w.leaves refl (w.answer g)).map;
           }
 
     module _ {s : Seen} (seen : s ≡ seen_by false (next_in (rows log t m)) (versions_in (keys_in (active_rows (rows log t m))))) where
-      pub begin_bad : {r : Begun} → s.tally ≡ Bad → r ≡ refused_by BadStore → Begins log used.len t r log t
+      pub begin_bad : {r : Begun} → s.tally ≡ None → r ≡ refused_by BadStore → Begins log used.len t r log t
       begin_bad y q = refuses BadStore refl q (λ g. bad-answer log used.len (length t) next_seen open_seen seen y)
 
-      module _ (k : ℕ) (y : s.tally ≡ Open k) where
+      module _ (k : ℕ) (y : s.tally ≡ Some k) where
         opens : SeenOpen next_seen open_seen k s.handle
         opens = seen_open next_seen open_seen k seen y
 

@@ -2,13 +2,15 @@
 use Prim.Native.Nat.{ℕ, zero, suc, ◌+◌, ◌-◌, ◌≤◌}
 use mathlib.Core.Path.{◌≡◌, refl, sym, ap, ◌∙◌, subst}
 use mathlib.Core.Bool.{Bool, true, false}
-use mathlib.Core.Option.{Option, none, some}
 use mathlib.Core.List.{List, [], ◌∷◌, ◌++◌, append_assoc}
 use native.Mathlib.Decide.{dec_le}
 use native.Mathlib.Omega.{arith}
 use lib.Dec.{leb}
 use lib.ListN.{length, take, drop, take-append-drop}
 use lib.Seq.{length-take-le}
+use Rattle.std.specs.Prelude.{Result, Ok, Err, Option, ℕ, Some, None}
+use Rattle.bitcask.specs.declared.request.Used.{Used}
+use Rattle.keycode.specs.declared.refusal.Refusal.{Refusal}
 use Rattle.keycode.specs.Tests.{pick}
 use Rattle.keycode.specs.key.Keys.{encode, version}
 use Rattle.keycode.specs.declared.refusal.Refusal.TheVariants.{LogFull, BadStore}
@@ -18,10 +20,6 @@ use Rattle.bitcask.specs.keydir.Place.{All, all_none, all_more}
 use Rattle.bitcask.specs.recovery.Map.{Pair, Rising}
 use Rattle.bitcask.specs.recovery.Recover.{map_of}
 use Rattle.bitcask.proofs.recovery.FoldLaws.{map-rising}
-use Rattle.bitcask.specs.declared.request.Changed.{Changed}
-use Rattle.bitcask.specs.declared.request.Changed.TheVariants as Change
-use Rattle.bitcask.specs.declared.append.Room.{Room}
-use Rattle.bitcask.specs.declared.append.Room.TheVariants.{Left, Full}
 use Rattle.bitcask.specs.change.Append.{State, appended, room_after, size_all}
 use Rattle.bitcask.specs.declared.engine.mark.Mark.{Mark}
 use Rattle.bitcask.specs.declared.engine.span.Span.{Span}
@@ -55,8 +53,8 @@ unfolding undos_of
 undos_more v q m w = ap (λ (o : Option (List ℕ)). undo_by v q.key o ++ undos_of v m) w.says
 
 by_dels : (v : ℕ) (b : List ℕ) (o : Option (List ℕ)) {es : List Entry} → Dels es → Dels (undo_by v b o ++ es)
-by_dels v b none d = d
-by_dels v b (some u) d = dels_more (dels_more d)
+by_dels v b None d = d
+by_dels v b (Some u) d = dels_more (dels_more d)
 
 pub undos_dels : (v : ℕ) (m : List Pair) (key : List ℕ) → Dels (undos_of v m ++ (del key ∷ []))
 unfolding undos_of
@@ -118,8 +116,8 @@ unfolding pairs
 stand_bytes log b all_none = all_none
 stand_bytes log b (all_more {x = r} s a) = all_more (subst Bytes s.key (bytes_take (length r.key) (drop r.at log) (bytes_drop r.at log b))) (stand_bytes log b a)
 
-size_same : (n : ℕ) (es fs : List Entry) → size_all es ≡ size_all fs → room_all (Left n) es ≡ room_all (Left n) fs
-size_same n es fs e = room-all n es ∙ ap (λ (k : ℕ). pick (leb k n) (Left (n - k)) Full) e ∙ sym (room-all n fs)
+size_same : (n : ℕ) (es fs : List Entry) → size_all es ≡ size_all fs → room_all (Some n) es ≡ room_all (Some n) fs
+size_same n es fs e = room-all n es ∙ ap (λ (k : ℕ). pick (leb k n) (Some (n - k)) None) e ∙ sym (room-all n fs)
 
 module _ (log t : List ℕ) (m : Mark) (span : Span) (v : ℕ) (key : List ℕ) (h : Held log t m) (k : rank span.to (rows log t m) ≤ length (rows log t m)) where
   abbrev i : ℕ
@@ -140,13 +138,13 @@ module _ (log t : List ℕ) (m : Mark) (span : Span) (v : ℕ) (key : List ℕ) 
   abbrev s : State
   s = store_of log t m
 
-  abbrev free : Room
-  free = Left (length log - m.used.len)
+  abbrev free : Option ℕ
+  free = Some (length log - m.used.len)
 
-  at-answer : {a b r : Changed} {ns log' t' : List ℕ} → a ≡ b → Closes log t m es ns b r log' t' → Closes log t m es ns a r log' t'
+  at-answer : {a b r : Result Used Refusal} {ns log' t' : List ℕ} → a ≡ b → Closes log t m es ns b r log' t' → Closes log t m es ns a r log' t'
   at-answer e c = rw e c
 
-  pub undo_bad : {b : Bool} → b ≡ all_users (pairs rs) → b ≡ false → Undoes log t m rs v key (Change.Refused BadStore) log t
+  pub undo_bad : {b : Bool} → b ≡ all_users (pairs rs) → b ≡ false → Undoes log t m rs v key (Err BadStore) log t
   unfolding among undoing
   undo_bad e f = let z : all_users (pairs rs) ≡ false = sym e ∙ f in at-answer (rw z) (record { leaves = leaves_refused log m.used.len t es BadStore; numbers = refl; answer = λ g. refl })
 
@@ -158,19 +156,19 @@ module _ (log t : List ℕ) (m : Mark) (span : Span) (v : ℕ) (key : List ℕ) 
     unfolding between rows_from
     written = all-written (pairs rs) (stand_bytes log y (all_drop i (all_take j (rows_stand log t m)))) every
 
-    module _ {once twice left : Room} (eo : once ≡ room_tombs (Left (length log - m.used.len)) rs) (ew : twice ≡ room_tombs once rs) (el : left ≡ room_after twice (length key) 0) where
+    module _ {once twice left : Option ℕ} (eo : once ≡ room_tombs (Some (length log - m.used.len)) rs) (ew : twice ≡ room_tombs once rs) (el : left ≡ room_after twice (length key) 0) where
       -- the room that the code finds is the list's
       undo_room : left ≡ room_all free es
       undo_room =
           let ds : List Entry = tombstones rs in
           el
-          ∙ ap (λ (r : Room). room_after r (length key) 0)
-          (ew ∙ ap (λ (r : Room). room_tombs r rs) eo ∙ room-rows (room_tombs free rs) rs ∙ ap (λ (r : Room). room_all r ds) (room-rows free rs) ∙ sym (room-append free ds ds))
+          ∙ ap (λ (r : Option ℕ). room_after r (length key) 0)
+          (ew ∙ ap (λ (r : Option ℕ). room_tombs r rs) eo ∙ room-rows (room_tombs free rs) rs ∙ ap (λ (r : Option ℕ). room_all r ds) (room-rows free rs) ∙ sym (room-append free ds ds))
           ∙ last-room free (ds ++ ds) key
           ∙ size_same (length log - m.used.len) ((ds ++ ds) ++ (del key ∷ [])) es
           (omega (arith, last_size (ds ++ ds) key, size_append ds ds, last_size (undos_of v (pairs rs)) key, undos_size v rs written))
 
-      pub undo_full : left ≡ Full → Undoes log t m rs v key (Change.Refused LogFull) log t
+      pub undo_full : left ≡ None → Undoes log t m rs v key (Err LogFull) log t
       unfolding among undoing
       undo_full z = at-answer (rw every) (closes_full log t m es (0 ∷ 7 ∷ 12 ∷ []) refl (sym undo_room ∙ z))
 
@@ -207,8 +205,8 @@ module _ (log t : List ℕ) (m : Mark) (span : Span) (v : ℕ) (key : List ℕ) 
           undo_held : Held log' t' mid
           undo_held = keeps_held h mid_keeps
 
-          pub undo_done : (x : ℕ) → left ≡ Left x → m ≡ mark_of m.used t → {l : State} → l ≡ del_where (store_of log' t' mid) key
-              → Undoes log t m rs v key (Change.Done (record { len = l.used })) l.log l.table
+          pub undo_done : (x : ℕ) → left ≡ Some x → m ≡ mark_of m.used t → {l : State} → l ≡ del_where (store_of log' t' mid) key
+              → Undoes log t m rs v key (Ok (record { len = l.used })) l.log l.table
           unfolding among undoing
           undo_done x z em {l} f =
               at-answer (rw every)

@@ -2,11 +2,12 @@
 use Prim.Native.Nat.{ℕ, ◌-◌, ◌≤◌}
 use mathlib.Core.Path.{◌≡◌, refl, sym, ap, ◌∙◌}
 use mathlib.Core.Bool.{true, false}
-use mathlib.Core.Option.{Option, none, some}
 use mathlib.Core.List.{List, [], ◌∷◌}
 use native.Mathlib.Omega.{arith}
 use lib.ListN.{length, take, drop, replicate, length-drop}
 use lib.Seq.{drop_at, take_all}
+use Rattle.std.specs.Prelude.{Result, Ok, Err, Option, None, Some}
+use Rattle.keycode.specs.declared.strings.Fault.{Fault}
 use Rattle.keycode.specs.Limits.{max_key}
 use Rattle.keycode.specs.Buffer.{put}
 use Rattle.keycode.specs.Number.{be}
@@ -16,10 +17,6 @@ use Rattle.keycode.specs.encode.Promises.{encode_answer}
 use Rattle.keycode.specs.declared.refusal.Refusal.{Refusal}
 use Rattle.keycode.specs.declared.key.Key.{Key}
 use Rattle.keycode.specs.declared.key.Key.TheVariants.{NextVersion, TxnActive, TxnActiveSnapshot, TxnWrite, Version, Unversioned}
-use Rattle.keycode.specs.declared.key.Decoded.{Decoded}
-use Rattle.keycode.specs.declared.key.Decoded.TheVariants.{Whole, Refused}
-use Rattle.keycode.specs.declared.key.Reading.{Reading}
-use Rattle.keycode.specs.declared.key.Reading.TheVariants.{Read, Faulty}
 use Rattle.keycode.proofs.Basics.{nope}
 use Rattle.keycode.proofs.NumberLaws.{Bytes, length-be}
 use Rattle.keycode.proofs.BufferLaws.{length-put}
@@ -37,12 +34,12 @@ use Rattle.mvcc.specs.undo.Undo.{Names}
 
 -- ---- by what the code decodes
 
-module _ (b : List ℕ) {d : Decoded} (says : d ≡ forget (decode_why max_key b)) where
-  pub write_bad : (r : Refusal) → d ≡ Refused r → false ≡ is_user (user_in b)
+module _ (b : List ℕ) {d : Result Key Refusal} (says : d ≡ forget (decode_why max_key b)) where
+  pub write_bad : (r : Refusal) → d ≡ Err r → false ≡ is_user (user_in b)
   unfolding user_in
   write_bad r e = rw (← says, e)
 
-  pub write_key : (k j : Key) → d ≡ Whole k → k ≡ j → is_user (user_of b j) ≡ is_user (user_in b)
+  pub write_key : (k j : Key) → d ≡ Ok k → k ≡ j → is_user (user_of b j) ≡ is_user (user_in b)
   unfolding user_in
   write_key k j e f = rw (← says, e, f)
 
@@ -54,7 +51,7 @@ pub record Wrote (b u : List ℕ) : Type 0 where
   pub bytes : encode (txn_write writer u) ≡ b
   pub few : length u ≤ max_key
 
-key-wrote : (b u : List ℕ) (k : Key) → Bytes b → decode_why max_key b ≡ Read k → user_of b k ≡ some u → Wrote b u
+key-wrote : (b u : List ℕ) (k : Key) → Bytes b → decode_why max_key b ≡ Ok k → user_of b k ≡ Some u → Wrote b u
 key-wrote b u NextVersion y q e = nope (cc)
 key-wrote b u (TxnActive v) y q e = nope (cc)
 key-wrote b u (TxnActiveSnapshot v) y q e = nope (cc)
@@ -65,17 +62,17 @@ key-wrote b u (TxnWrite v p) y q e =
 key-wrote b u (Version p v) y q e = nope (cc)
 key-wrote b u (Unversioned p) y q e = nope (cc)
 
-pub user-wrote : (b u : List ℕ) → Bytes b → user_in b ≡ some u → Wrote b u
+pub user-wrote : (b u : List ℕ) → Bytes b → user_in b ≡ Some u → Wrote b u
 unfolding user_in
 user-wrote b u y e = go (decode_why max_key b) refl e
   where
-    go : (r : Reading) → decode_why max_key b ≡ r → user_by b (forget r) ≡ some u → Wrote b u
-    go (Read k) q f = key-wrote b u k y q f
-    go (Faulty w) q f = nope (cc)
+    go : (r : Result Key Fault) → decode_why max_key b ≡ r → user_by b (forget r) ≡ Some u → Wrote b u
+    go (Ok k) q f = key-wrote b u k y q f
+    go (Err w) q f = nope (cc)
 
-pub user_some : (o : Option (List ℕ)) → is_user o ≡ true → (u : List ℕ) × (o ≡ some u)
-user_some none e = nope (cc)
-user_some (some u) e = (u, refl)
+pub user_some : (o : Option (List ℕ)) → is_user o ≡ true → (u : List ℕ) × (o ≡ Some u)
+user_some None e = nope (cc)
+user_some (Some u) e = (u, refl)
 
 -- ---- the key that it names
 
@@ -116,7 +113,7 @@ module _ (b : List ℕ) (y : Bytes b) where
 -- bytes that are a TxnWrite key, and whose
 pub record Written (b : List ℕ) : Type 0 where
   pub user : List ℕ
-  pub says : user_in b ≡ some user
+  pub says : user_in b ≡ Some user
   pub wrote : Wrote b user
 
 pub all-written : (ps : List Pair) → All (λ (q : Pair). Bytes q.key) ps → all_users ps ≡ true → All (λ (q : Pair). Written q.key) ps

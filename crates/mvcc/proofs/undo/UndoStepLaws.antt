@@ -2,7 +2,7 @@
 use Prim.Native.Nat.{ℕ, zero, suc, ◌+◌, ◌-◌, ◌≤◌, ◌<◌}
 use mathlib.Core.Path.{◌≡◌, refl, sym, ap, ◌∙◌, subst}
 use mathlib.Core.Bool.{Bool, true, false}
-use mathlib.Core.Option.{Option, none, some}
+use Rattle.std.specs.Prelude.{Option, None, Some}
 use mathlib.Core.List.{List}
 use native.Mathlib.Decide.{dec_lt}
 use native.Mathlib.Numerals.{add-one}
@@ -97,9 +97,9 @@ end_keeps {log} {t} {m} i h = go (dec_lt i (length (rows log t m)))
 
 -- ---- one write
 
-none-user : (o : Option (List ℕ)) → is_user o ≡ false → o ≡ none
-none-user none e = refl
-none-user (some u) e = nope (cc)
+none-user : (o : Option (List ℕ)) → is_user o ≡ false → o ≡ None
+none-user None e = refl
+none-user (Some u) e = nope (cc)
 
 pub named-within : (b : List ℕ) (v : ℕ) (r : Code) → is_user (user_in b) ≡ true → Names b v r → r.len ≤ length r.bytes
 named-within b v r e w = let q = user_some (user_in b) e in let c = w.names q.0 q.1 in omega (arith, c.whole, c.within)
@@ -150,8 +150,8 @@ sized_on : {s r : State} → Sized s → Keeps s r → Sized r
 sized_on h k = keeps_held h k
 
 one_keeps : (s : State) (i v : ℕ) (o : Option (List ℕ)) → Sized s → Keeps s (undo_one s i v o)
-one_keeps s i v none h = keeps-none s h.within h.room
-one_keeps s i v (some u) h = let k = del_where_keeps (encode (version u v)) h in keeps-more k (end_keeps i (sized_on h k))
+one_keeps s i v None h = keeps-none s h.within h.room
+one_keeps s i v (Some u) h = let k = del_where_keeps (encode (version u v)) h in keeps-more k (end_keeps i (sized_on h k))
 
 row_keeps : (s : State) (i v : ℕ) → Sized s → Keeps s (undo_row s i v)
 unfolding undo_row

@@ -6,9 +6,9 @@ use mathlib.Core.List.{List, [], ◌∷◌, ◌++◌}
 use native.Mathlib.Omega.{arith}
 use lib.ListN.{length, get_or, length-append}
 use borrow.Author.Tests.{lt-ltb}
+use Rattle.std.specs.declared.cmp.Ordering.TheVariants.{Less}
 use Rattle.keycode.specs.Order.{compare_bytes}
 use Rattle.keycode.specs.key.Keys.{encode, txn_write, version}
-use Rattle.keycode.specs.declared.order.Order.TheVariants.{Less}
 use Rattle.keycode.proofs.OrderLaws.{compare_refl, compare_trans}
 use Rattle.keycode.proofs.key.KeyOrder.{order_tags}
 use Rattle.bitcask.specs.entry.Entry.{del}

@@ -2,16 +2,18 @@
 use Prim.Native.Nat.{ℕ}
 use mathlib.Core.Path.{◌≡◌, sym, ◌∙◌}
 use mathlib.Core.List.{List}
-use Rattle.bitcask.specs.declared.request.Changed.{Changed}
+use Rattle.std.specs.Prelude.{Result}
+use Rattle.bitcask.specs.declared.request.Used.{Used}
+use Rattle.keycode.specs.declared.refusal.Refusal.{Refusal}
+use Rattle.keycode.specs.declared.parts.Part.{Part}
 use Rattle.bitcask.specs.recovery.Agree.{Agrees}
-use Rattle.bitcask.specs.declared.answers.Located.{Located}
 use Rattle.mvcc.proofs.append.Unique.{leaves-log, leaves_table}
 use Rattle.mvcc.specs.unversioned.Promises.{GetsUnversioned, SetsPlain}
 
-pub unversioned_unique : {log : List ℕ} {used : ℕ} {t key : List ℕ} {r r' : Located} → Agrees log used t → GetsUnversioned log used t key r → GetsUnversioned log used t key r' → r ≡ r'
+pub unversioned_unique : {log : List ℕ} {used : ℕ} {t key : List ℕ} {r r' : Result Part Refusal} → Agrees log used t → GetsUnversioned log used t key r → GetsUnversioned log used t key r' → r ≡ r'
 unversioned_unique g w w' = w.answer g ∙ sym (w'.answer g)
 
-module _ {log : List ℕ} {used : ℕ} {t key value : List ℕ} {r r' : Changed} {l l' x x' : List ℕ} (g : Agrees log used t) (w : SetsPlain log used t key value r l x)
+module _ {log : List ℕ} {used : ℕ} {t key value : List ℕ} {r r' : Result Used Refusal} {l l' x x' : List ℕ} (g : Agrees log used t) (w : SetsPlain log used t key value r l x)
     (w' : SetsPlain log used t key value r' l' x') where
   pub plain_answer_lem : r ≡ r'
   plain_answer_lem = w.answer g ∙ sym (w'.answer g)

@@ -5,16 +5,13 @@ use mathlib.Core.Bool.{Bool, true, false}
 use mathlib.Core.List.{List, [], ◌∷◌, ◌++◌}
 use native.Mathlib.Omega.{arith}
 use lib.ListN.{length, take}
+use Rattle.std.specs.Prelude.{Result, Ok, Err, Option, ℕ, Some, None}
 use Rattle.keycode.specs.Limits.{max_key}
 use Rattle.keycode.specs.declared.parts.Part.{Part}
 use Rattle.keycode.specs.declared.refusal.Refusal.{Refusal}
 use Rattle.keycode.specs.key.Keys.{encode, version, decode_why, forget}
 use Rattle.keycode.specs.declared.key.Key.{Key}
-use Rattle.keycode.specs.declared.key.Decoded.{Decoded}
-use Rattle.keycode.specs.declared.key.Decoded.TheVariants.{Whole, Refused}
 use Rattle.bitcask.specs.declared.answers.Bound.TheVariants.{Included}
-use Rattle.mvcc.specs.declared.payload.VersionRead.{VersionRead}
-use Rattle.mvcc.specs.declared.payload.VersionRead.TheVariants.{Read, Bad as NoVersion}
 use Rattle.mvcc.specs.declared.payload.ValueRead.{ValueRead}
 use Rattle.mvcc.specs.declared.payload.ValueRead.TheVariants as Payload
 use Rattle.mvcc.specs.payload.Payloads.{value_in}
@@ -25,7 +22,6 @@ use Rattle.keycode.specs.declared.code.Code.{Code}
 use Rattle.keycode.specs.code.Codes.{Codes}
 use Rattle.bitcask.specs.declared.engine.mark.Mark.{Mark}
 use Rattle.bitcask.specs.declared.engine.spot.Spot.{Spot}
-use Rattle.bitcask.specs.declared.engine.walk.Near.{Near}
 use Rattle.bitcask.specs.engine.Rows.{Row, rows, key_place, value_place, rows_in}
 use Rattle.bitcask.specs.engine.Marks.{Agreeing}
 use Rattle.bitcask.specs.engine.Spots.{rank, row_at, upto_rank}
@@ -42,13 +38,13 @@ use Rattle.mvcc.specs.version.Seen.{or_else, last_rows, version_test, version_ro
 
 -- ---- a key
 
-pub label_by_lem : {got d : Decoded} {k j : Key} → got ≡ d → got ≡ Whole k → k ≡ j → label_key j ≡ label_by d
+pub label_by_lem : {got d : Result Key Refusal} {k j : Key} → got ≡ d → got ≡ Ok k → k ≡ j → label_key j ≡ label_by d
 label_by_lem p q r = ap label_key (sym r) ∙ ap label_by (sym q ∙ p)
 
-pub label_none : {got d : Decoded} (r : Refusal) → got ≡ d → got ≡ Refused r → Label.None ≡ label_by d
+pub label_none : {got d : Result Key Refusal} (r : Refusal) → got ≡ d → got ≡ Err r → Label.None ≡ label_by d
 label_none r p q = ap label_by (sym q ∙ p)
 
-pub version_by : (d : Decoded) {got j : Label} → got ≡ label_by d → got ≡ j → version_in j ≡ version_of d
+pub version_by : (d : Result Key Refusal) {got j : Label} → got ≡ label_by d → got ≡ j → version_in j ≡ version_of d
 version_by d p q = ap version_in (sym q ∙ p)
 
 -- ---- a payload
@@ -82,15 +78,15 @@ module _ (h : Handle) (i : Seen) (v : ℕ) {b : Bool} (eb : b ≡ sees h v) wher
   as_seen t er = rw (← eb, t) er
 
 module _ (h : Handle) (x : Row) {k : List ℕ} (ek : k ≡ x.key) where
-  module _ {got : VersionRead} (eg : got ≡ version_of (forget (decode_why max_key k))) where
+  module _ {got : Option ℕ} (eg : got ≡ version_of (forget (decode_why max_key k))) where
     seen_got : seen_row h x ≡ seen_by h (row_says x) got
     unfolding seen_row
     seen_got = rw (← ek, eg)
 
-    pub seen_broken : got ≡ NoVersion → Bad ≡ seen_row h x
+    pub seen_broken : got ≡ None → Bad ≡ seen_row h x
     seen_broken e = sym (seen_got ∙ rw e)
 
-    pub seen_version : (v : ℕ) → got ≡ Read v → {r : Seen} → r ≡ seen_as h (row_says x) v → r ≡ seen_row h x
+    pub seen_version : (v : ℕ) → got ≡ Some v → {r : Seen} → r ≡ seen_as h (row_says x) v → r ≡ seen_row h x
     seen_version v e er = er ∙ sym (seen_got ∙ rw e)
 
   module _ {got : Label} (eg : got ≡ label_by (forget (decode_why max_key k))) where
@@ -128,12 +124,12 @@ pub record Seeking (h : Handle) (low : List ℕ) (rs : List Row) (from n : ℕ) 
   pub within : n ≤ length rs
   pub same : last_rows h (down_from Included low rs from) ≡ last_rows h (down_from Included low rs n)
 
-module _ {h : Handle} {low : List ℕ} {rs : List Row} {from n : ℕ} (w : Seeking h low rs from n) {r : Near} (says : near_rank r rs ≡ before_in Included low rs n) where
-  pub seek_over : r ≡ Near.None → Hidden ≡ last_rows h (down_from Included low rs from)
+module _ {h : Handle} {low : List ℕ} {rs : List Row} {from n : ℕ} (w : Seeking h low rs from n) {r : Option Spot} (says : near_rank r rs ≡ before_in Included low rs n) where
+  pub seek_over : r ≡ None → Hidden ≡ last_rows h (down_from Included low rs from)
   unfolding last_rows
   seek_over e = sym (w.same ∙ rw (walk_over Included low rs n r says e))
 
-  module _ (p : Spot) (e : r ≡ Near.At p) where
+  module _ (p : Spot) (e : r ≡ Some p) where
     pub seek_stands : rank p rs < length rs
     seek_stands = let l : n ≤ length rs = w.within in omega (arith, (walk_on Included low rs n r says p e).0)
 

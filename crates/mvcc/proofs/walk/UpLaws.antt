@@ -3,17 +3,17 @@
 use Prim.Native.Nat.{ℕ, suc, ◌≤◌, ◌<◌}
 use mathlib.Core.Path.{◌≡◌, refl, sym, ap, ◌∙◌, subst}
 use mathlib.Core.Bool.{Bool, true, false}
-use mathlib.Core.Option.{none, some}
 use mathlib.Core.List.{List, [], ◌∷◌}
 use native.Mathlib.Decide.{dec_lt}
 use native.Mathlib.Omega.{arith}
 use lib.ListN.{length, drop, get_or, drop_of_length-le}
 use lib.Seq.{drop-cons, take-length}
 use borrow.Author.Tests.{lt-ltb, le-ltb}
+use Rattle.std.specs.Prelude.{Option, None, Some}
+use Rattle.std.specs.declared.cmp.Ordering.{Ordering}
+use Rattle.std.specs.declared.cmp.Ordering.TheVariants.{Less, Equal, Greater}
 use Rattle.keycode.specs.Tests.{pick}
 use Rattle.keycode.specs.Order.{compare_bytes}
-use Rattle.keycode.specs.declared.order.Order.{Order}
-use Rattle.keycode.specs.declared.order.Order.TheVariants.{Less, Equal, Greater}
 use Rattle.keycode.proofs.Basics.{nope}
 use Rattle.keycode.proofs.OrderLaws.{compare_equal, compare_flip, compare_trans}
 use Rattle.bitcask.specs.keydir.Place.{All, all_none, all_more}
@@ -22,7 +22,6 @@ use Rattle.bitcask.specs.declared.answers.Bound.{Bound}
 use Rattle.bitcask.specs.declared.answers.Bound.TheVariants.{Included, Excluded, Unbounded}
 use Rattle.bitcask.specs.read.Ranks.{admits_low, admits_high}
 use Rattle.bitcask.specs.declared.engine.spot.Spot.{Spot}
-use Rattle.bitcask.specs.declared.engine.walk.Near.{Near}
 use Rattle.bitcask.specs.engine.Rows.{Row, blank, pairs, rows_in}
 use Rattle.bitcask.specs.engine.Spots.{rank, row_at, order_in, from_rank}
 use Rattle.bitcask.specs.engine.Ranges.{inside, keep_rows, rows_from, range_of}
@@ -43,51 +42,51 @@ module _ (upper : Bound) (high : List ℕ) (rs : List Row) where
   unfolding up_from up_to
   up_past n h = ap (up_to upper high) (drop_of_length-le rs {i = n} h)
 
-  up_none : (n : ℕ) → none ≡ from_in upper high rs n → up_from upper high rs n ≡ []
+  up_none : (n : ℕ) → None ≡ from_in upper high rs n → up_from upper high rs n ≡ []
   unfolding from_in
   up_none n e = go (dec_lt n (length rs))
     where
       b : Bool
       b = admits_high upper (order_in high rs n)
 
-      by : (x : Bool) (ys : List Row) → none ≡ pick x (some n) none → pick x ys [] ≡ []
+      by : (x : Bool) (ys : List Row) → None ≡ pick x (Some n) None → pick x ys [] ≡ []
       by true ys q = nope (cc)
       by false ys q = refl
 
       go : Dec (n < length rs) → up_from upper high rs n ≡ []
       go (yes h) =
-          up_at n h ∙ by b (get_or rs n blank ∷ up_from upper high rs (suc n)) (e ∙ ap (λ (x : Bool). pick x (pick b (some n) none) none) (lt-ltb n (length rs) h))
+          up_at n h ∙ by b (get_or rs n blank ∷ up_from upper high rs (suc n)) (e ∙ ap (λ (x : Bool). pick x (pick b (Some n) None) None) (lt-ltb n (length rs) h))
       go (no h) = up_past n (omega arith)
 
-  up_some : (n i : ℕ) → some i ≡ from_in upper high rs n → (i ≡ n) × (n < length rs) × (up_from upper high rs n ≡ get_or rs n blank ∷ up_from upper high rs (suc n))
+  up_some : (n i : ℕ) → Some i ≡ from_in upper high rs n → (i ≡ n) × (n < length rs) × (up_from upper high rs n ≡ get_or rs n blank ∷ up_from upper high rs (suc n))
   unfolding from_in
   up_some n i e = go (dec_lt n (length rs))
     where
       b : Bool
       b = admits_high upper (order_in high rs n)
 
-      by : (x : Bool) (ys : List Row) → some i ≡ pick x (some n) none → (i ≡ n) × (pick x ys [] ≡ ys)
+      by : (x : Bool) (ys : List Row) → Some i ≡ pick x (Some n) None → (i ≡ n) × (pick x ys [] ≡ ys)
       by true ys q = (cc, refl)
       by false ys q = nope (cc)
 
-      out : some i ≡ none → (i ≡ n) × (n < length rs) × (up_from upper high rs n ≡ get_or rs n blank ∷ up_from upper high rs (suc n))
+      out : Some i ≡ None → (i ≡ n) × (n < length rs) × (up_from upper high rs n ≡ get_or rs n blank ∷ up_from upper high rs (suc n))
       out q = nope (cc)
 
       go : Dec (n < length rs) → (i ≡ n) × (n < length rs) × (up_from upper high rs n ≡ get_or rs n blank ∷ up_from upper high rs (suc n))
       go (yes h) =
-          let w = by b (get_or rs n blank ∷ up_from upper high rs (suc n)) (e ∙ ap (λ (x : Bool). pick x (pick b (some n) none) none) (lt-ltb n (length rs) h)) in
+          let w = by b (get_or rs n blank ∷ up_from upper high rs (suc n)) (e ∙ ap (λ (x : Bool). pick x (pick b (Some n) None) None) (lt-ltb n (length rs) h)) in
           (w.0, h, up_at n h ∙ w.1)
-      go (no h) = out (e ∙ ap (λ (x : Bool). pick x (pick b (some n) none) none) (le-ltb n (length rs) (omega arith)))
+      go (no h) = out (e ∙ ap (λ (x : Bool). pick x (pick b (Some n) None) None) (le-ltb n (length rs) (omega arith)))
 
-module _ (upper : Bound) (high : List ℕ) (rs : List Row) (n : ℕ) (r : Near) (says : near_rank r rs ≡ from_in upper high rs n) where
-  pub up_over : r ≡ Near.None → up_from upper high rs n ≡ []
-  up_over e = up_none upper high rs n (sym (ap (λ (x : Near). near_rank x rs) e) ∙ says)
+module _ (upper : Bound) (high : List ℕ) (rs : List Row) (n : ℕ) (r : Option Spot) (says : near_rank r rs ≡ from_in upper high rs n) where
+  pub up_over : r ≡ None → up_from upper high rs n ≡ []
+  up_over e = up_none upper high rs n (sym (ap (λ (x : Option Spot). near_rank x rs) e) ∙ says)
 
   -- the row that was answered stands at the place itself
-  pub up_on : (p : Spot) → r ≡ Near.At p → (rank p rs ≡ n) × (n < length rs) × (up_from upper high rs n ≡ row_at p rs ∷ up_from upper high rs (suc n))
+  pub up_on : (p : Spot) → r ≡ Some p → (rank p rs ≡ n) × (n < length rs) × (up_from upper high rs n ≡ row_at p rs ∷ up_from upper high rs (suc n))
   unfolding row_at
   up_on p e =
-      let w = up_some upper high rs n (rank p rs) (sym (ap (λ (x : Near). near_rank x rs) e) ∙ says) in
+      let w = up_some upper high rs n (rank p rs) (sym (ap (λ (x : Option Spot). near_rank x rs) e) ∙ says) in
       (w.0, w.1, w.2 ∙ ap (λ (k : ℕ). get_or rs k blank ∷ up_from upper high rs (suc n)) (sym w.0))
 
 -- ---- rows whose keys rise
@@ -174,7 +173,7 @@ high_stops upper a b high l e = go upper (compare_bytes a high) refl e
     same : compare_bytes a high ≡ Equal → compare_bytes b high ≡ Greater
     same q = less_greater high b (ap (λ (x : List ℕ). compare_bytes x b) (sym (compare_equal a high q)) ∙ l)
 
-    go : (u : Bound) (o : Order) → compare_bytes a high ≡ o → admits_high u o ≡ false → admits_high u (compare_bytes b high) ≡ false
+    go : (u : Bound) (o : Ordering) → compare_bytes a high ≡ o → admits_high u o ≡ false → admits_high u (compare_bytes b high) ≡ false
     go Included Less q f = nope (cc)
     go Included Equal q f = nope (cc)
     go Included Greater q f = ap (admits_high Included) (over q)

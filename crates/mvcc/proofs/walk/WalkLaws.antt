@@ -5,16 +5,16 @@ use mathlib.Core.Bool.{Bool, true, false}
 use mathlib.Core.List.{List, [], ◌∷◌}
 use native.Mathlib.Omega.{arith}
 use lib.ListN.{length}
+use Rattle.std.specs.Prelude.{Result, Ok, Err, Option, Some, None}
+use Rattle.bitcask.specs.declared.answers.KeyValue.{KeyValue}
+use Rattle.keycode.specs.declared.refusal.Refusal.{Refusal}
+use Rattle.std.specs.declared.cmp.Ordering.{Ordering}
 use Rattle.keycode.specs.Order.{compare_bytes}
-use Rattle.keycode.specs.declared.order.Order.{Order}
 use Rattle.keycode.specs.declared.parts.Part.{Part}
 use Rattle.keycode.specs.declared.refusal.Refusal.TheVariants.{BadStore}
 use Rattle.keycode.proofs.Basics.{nope}
 use Rattle.bitcask.specs.declared.answers.Bound.{Bound}
-use Rattle.bitcask.specs.declared.answers.Stepped.{Stepped}
-use Rattle.bitcask.specs.declared.answers.Stepped.TheVariants as Step
 use Rattle.bitcask.specs.declared.engine.spot.Spot.{Spot}
-use Rattle.bitcask.specs.declared.engine.walk.Near.{Near}
 use Rattle.bitcask.specs.engine.Rows.{Row}
 use Rattle.bitcask.specs.engine.Spots.{rank, row_at}
 use Rattle.bitcask.specs.engine.Walks.{near_rank, from_in}
@@ -30,7 +30,7 @@ use Rattle.mvcc.proofs.walk.UpLaws.{up_over, up_on}
 
 -- ---- one record more
 
-pub same_by : (log : List ℕ) (a b : Part) {x y : List ℕ} {o k : Order} → x ≡ part_of log a → y ≡ part_of log b → o ≡ compare_bytes x y → o ≡ k → is_equal k ≡ same_string log a b
+pub same_by : (log : List ℕ) (a b : Part) {x y : List ℕ} {o k : Ordering} → x ≡ part_of log a → y ≡ part_of log b → o ≡ compare_bytes x y → o ≡ k → is_equal k ≡ same_string log a b
 unfolding same_string
 same_by log a b ex ey eo e = ap is_equal (sym e ∙ eo) ∙ rw (ex, ey)
 
@@ -43,10 +43,10 @@ module _ (log : List ℕ) (key : Part) {x : Record} (k : Part) (new : Seen) (e :
     within-other t ew = rw (e, ← eb, t) ew
 
   module _ (value : Part) where
-    pub broken_same : b ≡ true → Over (Step.Refused BadStore) ≡ broken_by log key value x
+    pub broken_same : b ≡ true → Over (Err BadStore) ≡ broken_by log key value x
     broken_same t = rw (e, ← eb, t)
 
-    pub broken_other : b ≡ false → Over (Step.Next key value) ≡ broken_by log key value x
+    pub broken_other : b ≡ false → Over (Ok (record { key = key; value = value })) ≡ broken_by log key value x
     broken_other t = rw (e, ← eb, t)
 
 -- ---- the walk up
@@ -63,13 +63,13 @@ over-stays h log (Within k x) (r ∷ rs) e = nope (cc)
 over-stays h log (Broken k x) (r ∷ rs) e = nope (cc)
 over-stays h log (Over a) (r ∷ rs) e = over-stays h log (Over a) rs refl
 
-module _ {h : Handle} {log : List ℕ} {upper : Bound} {high : List ℕ} {rs : List Row} {from : ℕ} {w : Walk} {n : ℕ} (g : Walking h log upper high rs from w n) {r : Near}
+module _ {h : Handle} {log : List ℕ} {upper : Bound} {high : List ℕ} {rs : List Row} {from : ℕ} {w : Walk} {n : ℕ} (g : Walking h log upper high rs from w n) {r : Option Spot}
     (says : near_rank r rs ≡ from_in upper high rs n) where
-  pub walk_end : r ≡ Near.None → {a : Stepped} → a ≡ ended_by w → a ≡ step_rows h log (up_from upper high rs from)
+  pub walk_end : r ≡ None → {a : Result KeyValue Refusal} → a ≡ ended_by w → a ≡ step_rows h log (up_from upper high rs from)
   unfolding walk_rows step_rows
   walk_end e ea = ea ∙ sym (ap ended_by (g.same ∙ ap (walk_rows h log w) (up_over upper high rs n r says e)))
 
-  module _ (p : Spot) (e : r ≡ Near.At p) where
+  module _ (p : Spot) (e : r ≡ Some p) where
     pub walk_stands : rank p rs < length rs
     walk_stands = let l = (up_on upper high rs n r says p e).1 in omega (arith, (up_on upper high rs n r says p e).0)
 
@@ -83,7 +83,7 @@ module _ {h : Handle} {log : List ℕ} {upper : Bound} {high : List ℕ} {rs : L
           g.same ∙ ap (walk_rows h log w) (up_on upper high rs n r says p e).2
           ∙ ap (λ (y : Walk). walk_rows h log y (up_from upper high rs (suc n))) (sym (ew ∙ ap (next_walk log w) ex))
 
-      pub walk_over : {b : Bool} → b ≡ is_over w' → b ≡ true → {a : Stepped} → a ≡ ended_by w' → a ≡ step_rows h log (up_from upper high rs from)
+      pub walk_over : {b : Bool} → b ≡ is_over w' → b ≡ true → {a : Result KeyValue Refusal} → a ≡ ended_by w' → a ≡ step_rows h log (up_from upper high rs from)
       unfolding step_rows
       walk_over eb t ea = ea ∙ sym (ap ended_by (step_on_lem ∙ over-stays h log w' (up_from upper high rs (suc n)) (sym eb ∙ t)))
 

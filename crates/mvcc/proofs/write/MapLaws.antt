@@ -4,8 +4,10 @@ use mathlib.Core.Path.{◌≡◌}
 use mathlib.Core.List.{List}
 use lib.Dec.{leb}
 use lib.ListN.{length}
+use Rattle.std.specs.Prelude.{Result}
+use Rattle.bitcask.specs.declared.request.Used.{Used}
+use Rattle.keycode.specs.declared.refusal.Refusal.{Refusal}
 use Rattle.keycode.specs.Limits.{max_key, max_value}
-use Rattle.bitcask.specs.declared.request.Changed.{Changed}
 use Rattle.bitcask.specs.recovery.Recover.{map_of}
 use Rattle.bitcask.specs.recovery.Agree.{fit, Agrees}
 use Rattle.bitcask.specs.recovery.Promises.{changed_number}
@@ -20,7 +22,7 @@ use Rattle.mvcc.specs.conflict.Conflicts.{search_by, searched}
 use Rattle.mvcc.specs.write.Promises.{Writes, write_answer}
 use Rattle.mvcc.proofs.write.WriteLaws.{plan-sets}
 
-pub writes_grow : {log : List ℕ} {used : ℕ} {t : List ℕ} {h : Handle} {key payload : List ℕ} {size : ℕ} {r : Changed} {log' t' : List ℕ} → Agrees log used t
+pub writes_grow : {log : List ℕ} {used : ℕ} {t : List ℕ} {h : Handle} {key payload : List ℕ} {size : ℕ} {r : Result Used Refusal} {log' t' : List ℕ} → Agrees log used t
     → Writes log used t h key payload size r log' t' → changed_number r ≡ 0 → Grows log used (plan h.version key payload) r log'
 unfolding write_answer
 writes_grow {log} {used} {t} {h} {key} {payload} {size} {r} g w z =

@@ -2,13 +2,15 @@
 use Prim.Native.Nat.{ℕ}
 use mathlib.Core.Path.{◌≡◌, sym, ◌∙◌}
 use mathlib.Core.List.{List}
-use Rattle.bitcask.specs.declared.request.Changed.{Changed}
+use Rattle.std.specs.Prelude.{Result}
+use Rattle.bitcask.specs.declared.request.Used.{Used}
+use Rattle.keycode.specs.declared.refusal.Refusal.{Refusal}
 use Rattle.bitcask.specs.recovery.Agree.{Agrees}
 use Rattle.mvcc.specs.declared.handle.Handle.{Handle}
 use Rattle.mvcc.proofs.append.Unique.{leaves-log, leaves_table}
 use Rattle.mvcc.specs.write.Promises.{Writes}
 
-module _ {log : List ℕ} {used : ℕ} {t : List ℕ} {h : Handle} {key payload : List ℕ} {size : ℕ} {r r' : Changed} {l l' x x' : List ℕ} (g : Agrees log used t)
+module _ {log : List ℕ} {used : ℕ} {t : List ℕ} {h : Handle} {key payload : List ℕ} {size : ℕ} {r r' : Result Used Refusal} {l l' x x' : List ℕ} (g : Agrees log used t)
     (w : Writes log used t h key payload size r l x) (w' : Writes log used t h key payload size r' l' x') where
   pub writes-answer : r ≡ r'
   writes-answer = w.answer g ∙ sym (w'.answer g)

@@ -1,17 +1,14 @@
 -- A write's search for conflicts: the last version of its key, from the lowest that may be unseen on. Document 01, 'Transactions' and rows
 -- 6 and 12 of 'Numbers returned'. Assumes nothing.
-use Rattle.std.specs.Prelude.{ℕ, ◌-◌, ◌^◌, Bool, List, [], ◌∷◌}
+use Rattle.keycode.specs.declared.refusal.Refusal.{Refusal}
+use Rattle.std.specs.Prelude.{ℕ, ◌-◌, ◌^◌, Bool, List, [], ◌∷◌, Result, ⊤, Ok, Err, Option, Some, None}
 use Rattle.keycode.specs.Tests.{pick}
 use Rattle.keycode.specs.Limits.{max_key}
 use Rattle.keycode.specs.declared.refusal.Refusal.TheVariants.{Conflict, BadStore}
 use Rattle.keycode.specs.key.Keys.{encode, version, decode_why, forget}
 use Rattle.bitcask.specs.recovery.Map.{Pair}
-use Rattle.bitcask.specs.declared.append.Check.{Check}
-use Rattle.bitcask.specs.declared.append.Check.TheVariants.{Fine, Refused}
 use Rattle.bitcask.specs.declared.answers.Bound.TheVariants.{Included}
 use Rattle.mvcc.specs.declared.handle.Handle.{Handle}
-use Rattle.mvcc.specs.declared.payload.VersionRead.{VersionRead}
-use Rattle.mvcc.specs.declared.payload.VersionRead.TheVariants.{Read, Bad as NoVersion}
 use Rattle.mvcc.specs.handle.Handles.{sees, lowest_of}
 use Rattle.mvcc.specs.version.Seen.{version_of}
 use Rattle.bitcask.specs.engine.Rows.{Row}
@@ -20,16 +17,16 @@ use Rattle.bitcask.specs.engine.Ranges.{inside}
 use Rattle.bitcask.specs.engine.Walks.{down_from}
 
 -- the last record found: its version, where it has one, is to be one that the handle sees
-abbrev pub met_by : Handle → VersionRead → Check
-met_by h NoVersion = Refused BadStore
-met_by h (Read v) = pick (sees h v) Fine (Refused Conflict)
+abbrev pub met_by : Handle → Option ℕ → Result ⊤ Refusal
+met_by h None = Err BadStore
+met_by h (Some v) = pick (sees h v) (Ok tt) (Err Conflict)
 
-unfoldable pub seen_bytes : Handle → List ℕ → Check
+unfoldable pub seen_bytes : Handle → List ℕ → Result ⊤ Refusal
 seen_bytes h b = met_by h (version_of (forget (decode_why max_key b)))
 
 -- the last pair of a range decides, by its key alone
-unfoldable pub search_by : Handle → List Pair → Check
-search_by h [] = Fine
+unfoldable pub search_by : Handle → List Pair → Result ⊤ Refusal
+search_by h [] = (Ok tt)
 search_by h (q ∷ []) = seen_bytes h q.key
 search_by h (q ∷ p ∷ m) = search_by h (p ∷ m)
 

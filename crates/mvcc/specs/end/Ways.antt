@@ -1,9 +1,10 @@
 -- What the two ways share in which a transaction ends: the checks, a read-only handle that ends at once, and tombstones that are judged
 -- and appended, all or none. Document 01, 'Transactions'. Assumes nothing.
-use Rattle.std.specs.Prelude.{ℕ, ◌+◌, ◌≡◌, true, List, [], ◌∷◌, ◌++◌, leb, length}
+use Rattle.bitcask.specs.declared.request.Used.{Used}
+use Rattle.keycode.specs.declared.refusal.Refusal.{Refusal}
+use Rattle.std.specs.Prelude.{ℕ, ◌+◌, ◌≡◌, true, List, [], ◌∷◌, ◌++◌, leb, length, Result}
 use Rattle.keycode.specs.Tests.{pick}
 use Rattle.bitcask.specs.entry.Entry.{Entry, del}
-use Rattle.bitcask.specs.declared.request.Changed.{Changed}
 use Rattle.bitcask.specs.recovery.Map.{Pair}
 use Rattle.bitcask.specs.recovery.Recover.{map_of}
 use Rattle.bitcask.specs.recovery.Agree.{fit, Agrees}
@@ -31,11 +32,11 @@ numbers_of Commit = 0 ∷ 3 ∷ 7 ∷ 13 ∷ []
 numbers_of Rollback = 0 ∷ 3 ∷ 7 ∷ 12 ∷ 13 ∷ []
 
 -- the answer where the checks pass
-abbrev pub judged_of : Way → List ℕ → ℕ → ℕ → Handle → Changed
+abbrev pub judged_of : Way → List ℕ → ℕ → ℕ → Handle → Result Used Refusal
 judged_of Commit log used words h = append_answer log used words (commit_plan h (map_of log used))
 judged_of Rollback log used words h = undo_answer log used words h
 
-pub record Ends (way : Way) (log : List ℕ) (used : ℕ) (t : List ℕ) (h : Handle) (r : Changed) (log' t' : List ℕ) : Type 0 where
+pub record Ends (way : Way) (log : List ℕ) (used : ℕ) (t : List ℕ) (h : Handle) (r : Result Used Refusal) (log' t' : List ℕ) : Type 0 where
   pub leaves : Leaves log used t (plan_of way h (map_of log used)) r log' t'
   pub early : Early log used t h r log' t'
   pub numbers : among (changed_number r) (numbers_of way) ≡ true
@@ -52,7 +53,7 @@ unfoldable pub del_where : State → List ℕ → State
 del_where s key = pick (leb (s.used + 8 + length key) (length s.log)) (appended s (del key)) s
 
 -- tombstones appended, all or none, to a store that was entered: the answer is one of some numbers, and under agreement `a`
-pub record Closes (log t : List ℕ) (m : Mark) (es : List Entry) (ns : List ℕ) (a : Changed) (r : Changed) (log' t' : List ℕ) : Type 0 where
+pub record Closes (log t : List ℕ) (m : Mark) (es : List Entry) (ns : List ℕ) (a : Result Used Refusal) (r : Result Used Refusal) (log' t' : List ℕ) : Type 0 where
   pub leaves : Leaves log m.used.len t es r log' t'
   pub numbers : among (changed_number r) ns ≡ true
   pub answer : Agrees log m.used.len t → r ≡ a
@@ -61,5 +62,5 @@ pub record Closes (log t : List ℕ) (m : Mark) (es : List Entry) (ns : List ℕ
 unfoldable pub clearing : List Row → List ℕ → List Entry
 clearing rs key = tombstones rs ++ (del key ∷ [])
 
-abbrev pub Clears : List ℕ → List ℕ → Mark → List Row → List ℕ → Changed → List ℕ → List ℕ → Type 0
+abbrev pub Clears : List ℕ → List ℕ → Mark → List Row → List ℕ → Result Used Refusal → List ℕ → List ℕ → Type 0
 Clears log t m rs key r log' t' = Closes log t m (clearing rs key) (0 ∷ 7 ∷ []) (append_answer log m.used.len (length t) (clearing rs key)) r log' t'

@@ -1,15 +1,12 @@
 -- What the store keeps under its keys: versions, sets of versions, stored values. Document 01, 'Transactions', fixes the first edition;
 -- another may read several payloads alike, so that nothing but 'read after write' may be used of an edition. Assumes nothing.
-use Rattle.std.specs.Prelude.{ℕ, zero, suc, ◌/◌, ◌%◌, ◌^◌, ◌<◌, ◌≡◌, Bool, List, [], ◌∷◌, ◌++◌, length, take, drop, get_or, eqb, leb}
-use Rattle.std.proofs.Math.Option.{Option, none, some}
+use Rattle.std.specs.Prelude.{ℕ, zero, suc, ◌/◌, ◌%◌, ◌^◌, ◌<◌, ◌≡◌, Bool, List, [], ◌∷◌, ◌++◌, length, take, drop, get_or, eqb, leb, Some, None, Option}
 use Rattle.keycode.specs.Tests.{pick}
 use Rattle.keycode.specs.Limits.{max_open}
 use Rattle.keycode.specs.Number.{be, num}
 use Rattle.keycode.specs.declared.refusal.Refusal.{Refusal}
 use Rattle.keycode.specs.declared.refusal.Refusal.TheVariants.{TooManyOpen, BadStore}
 use Rattle.mvcc.specs.declared.handle.Handle.{Handle}
-use Rattle.mvcc.specs.declared.payload.VersionRead.{VersionRead}
-use Rattle.mvcc.specs.declared.payload.VersionRead.TheVariants.{Read, Bad as BadVersion}
 use Rattle.mvcc.specs.declared.payload.ValueRead.{ValueRead}
 use Rattle.mvcc.specs.declared.payload.ValueRead.TheVariants.{Value, Gone, Bad}
 use Rattle.mvcc.specs.declared.payload.SetAnswer.TheVariants.{Fine, Refused}
@@ -21,7 +18,7 @@ use Rattle.mvcc.specs.handle.Handles.{rising, handle_of, blank_handle}
 -- how versions, sets and optional values are written, and what is read; none where a payload holds no set
 pub record Edition : Type 0 where
   pub write_version : ℕ → List ℕ
-  pub read_version : List ℕ → VersionRead
+  pub read_version : List ℕ → Option ℕ
   pub write_set : List ℕ → List ℕ
   pub read_set : List ℕ → Option (List ℕ)
   pub write_value : Option (List ℕ) → List ℕ
@@ -29,26 +26,26 @@ pub record Edition : Type 0 where
 
 -- what a reader found in a payload: a value's bytes, or none for a tombstone; or that the payload is neither
 abbrev pub value_at : List ℕ → ValueRead → Option (Option (List ℕ))
-value_at b (Value skip) = some (some (drop skip b))
-value_at b Gone = some none
-value_at b Bad = none
+value_at b (Value skip) = Some (Some (drop skip b))
+value_at b Gone = Some None
+value_at b Bad = None
 
 -- every element is a version, as a slice's rule gives it
 abbrev pub Versions : List ℕ → Type 0
 Versions vs = (i : ℕ) → get_or vs i 0 < 2 ^ 64
 
 pub record ReadsBack (e : Edition) : Type 0 where
-  pub version : (v : ℕ) → v < 2 ^ 64 → e.read_version (e.write_version v) ≡ Read v
-  pub set : (vs : List ℕ) → Versions vs → e.read_set (e.write_set vs) ≡ some vs
-  pub value : (v : Option (List ℕ)) → value_at (e.write_value v) (e.read_value (e.write_value v)) ≡ some v
+  pub version : (v : ℕ) → v < 2 ^ 64 → e.read_version (e.write_version v) ≡ Some v
+  pub set : (vs : List ℕ) → Versions vs → e.read_set (e.write_set vs) ≡ Some vs
+  pub value : (v : Option (List ℕ)) → value_at (e.write_value v) (e.read_value (e.write_value v)) ≡ Some v
 
 -- ---- the first edition
 
 abbrev pub version_bytes : ℕ → List ℕ
 version_bytes v = be 8 v
 
-unfoldable pub version_in : List ℕ → VersionRead
-version_in b = pick (eqb (length b) 8) (Read (num b)) BadVersion
+unfoldable pub version_in : List ℕ → Option ℕ
+version_in b = pick (eqb (length b) 8) (Some (num b)) None
 
 unfoldable pub set_bytes : List ℕ → List ℕ
 set_bytes [] = []
@@ -64,12 +61,12 @@ abbrev pub whole_set : List ℕ → Bool
 whole_set b = eqb (length b % 8) 0
 
 unfoldable pub set_in : List ℕ → Option (List ℕ)
-set_in b = pick (whole_set b) (some (versions_of (length b / 8) b)) none
+set_in b = pick (whole_set b) (Some (versions_of (length b / 8) b)) None
 
 -- a value is 01 and then its bytes; a tombstone is 00
 unfoldable pub value_bytes : Option (List ℕ) → List ℕ
-value_bytes (some v) = 1 ∷ v
-value_bytes none = 0 ∷ []
+value_bytes (Some v) = 1 ∷ v
+value_bytes None = 0 ∷ []
 
 unfoldable pub value_in : List ℕ → ValueRead
 value_in [] = Bad
@@ -92,8 +89,8 @@ refused_set r = record { answer = Refused r; handle = blank_handle }
 
 -- 12 for a payload that holds no set, 9 for a set over the limit, 12 for one that does not rise, in this order
 unfoldable pub set_for : Handle → Option (List ℕ) → SetRead
-set_for h none = refused_set BadStore
-set_for h (some vs) =
+set_for h None = refused_set BadStore
+set_for h (Some vs) =
     pick (few_enough vs)
     (pick (rising vs) (record { answer = Fine; handle = handle_of h.version h.read_only vs }) (refused_set BadStore))
     (refused_set TooManyOpen)

@@ -1,14 +1,12 @@
 -- The checks that come first in every transaction call, as combinators: what they ask of the store is handed in. Document 01, 'Numbers
 -- returned', rows 3 and 13. Assumes nothing.
-use Rattle.std.specs.Prelude.{ℕ, ◌-◌, ◌^◌, Bool, true, false, List, eqb, length}
+use Rattle.keycode.specs.declared.refusal.Refusal.{Refusal}
+use Rattle.bitcask.specs.declared.request.Used.{Used}
+use Rattle.std.specs.Prelude.{ℕ, ◌-◌, ◌^◌, Bool, true, false, List, eqb, length, Result, ⊤, Ok, Err}
 use Rattle.keycode.specs.Tests.{pick}
 use Rattle.keycode.specs.Refusals.{number_of}
 use Rattle.keycode.specs.key.Keys.{encode, txn_active}
 use Rattle.keycode.specs.declared.refusal.Refusal.TheVariants.{NotOpen, BadRequest}
-use Rattle.bitcask.specs.declared.append.Check.{Check}
-use Rattle.bitcask.specs.declared.append.Check.TheVariants.{Fine, Refused}
-use Rattle.bitcask.specs.declared.request.Changed.{Changed}
-use Rattle.bitcask.specs.declared.request.Changed.TheVariants as Change
 use Rattle.bitcask.specs.recovery.Recover.{map_of}
 use Rattle.bitcask.specs.recovery.Agree.{fit}
 use Rattle.mvcc.specs.declared.handle.Handle.{Handle}
@@ -28,24 +26,24 @@ unfoldable pub open_by : Handle → Bool → Bool
 open_by h live = pick h.read_only true (pick (own_version h.version) live false)
 
 -- 13 for the sizes of the request, then for the handle, then 3
-unfoldable pub admit_by : Bool → Bool → Bool → Check
-admit_by fits sound active = pick fits (pick sound (pick active Fine (Refused NotOpen)) (Refused BadRequest)) (Refused BadRequest)
+unfoldable pub admit_by : Bool → Bool → Bool → Result ⊤ Refusal
+admit_by fits sound active = pick fits (pick sound (pick active (Ok tt) (Err NotOpen)) (Err BadRequest)) (Err BadRequest)
 
-abbrev pub check_number : Check → ℕ
-check_number Fine = 0
-check_number (Refused r) = number_of r
+abbrev pub check_number : Result ⊤ Refusal → ℕ
+check_number (Ok tt) = 0
+check_number (Err r) = number_of r
 
 -- ---- one test after the other
 
 -- what follows where a test passed
-abbrev pub on_fine : {A : Type 0} → Check → A → A → A
-on_fine Fine a b = a
-on_fine (Refused r) a b = b
+abbrev pub on_fine : {A : Type 0} → Result ⊤ Refusal → A → A → A
+on_fine (Ok tt) a b = a
+on_fine (Err r) a b = b
 
 -- the answer of a test that did not pass
-abbrev pub or_else : Check → Changed → Changed
-or_else Fine a = a
-or_else (Refused r) a = Change.Refused r
+abbrev pub or_else : Result ⊤ Refusal → Result Used Refusal → Result Used Refusal
+or_else (Ok tt) a = a
+or_else (Err r) a = Err r
 
 -- ---- of a log's map
 

@@ -1,17 +1,16 @@
 -- What the calls that give a handle answer: a refusal comes with the blank one. Assumes nothing.
-use Rattle.std.specs.Prelude.{ℕ}
+use Rattle.std.specs.Prelude.{ℕ, Ok, Err}
 use Rattle.keycode.specs.declared.refusal.Refusal.{Refusal}
-use Rattle.bitcask.specs.declared.request.Changed.TheVariants.{Done, Refused}
 use Rattle.bitcask.specs.recovery.Promises.{changed_number}
 use Rattle.mvcc.specs.declared.handle.Handle.{Handle}
 use Rattle.mvcc.specs.handle.Handles.{blank_handle}
 use Rattle.mvcc.specs.declared.begun.Begun.{Begun}
 
 abbrev pub refused_by : Refusal → Begun
-refused_by r = record { answer = Refused r; handle = blank_handle }
+refused_by r = record { answer = Err r; handle = blank_handle }
 
 abbrev pub begun_with : ℕ → Handle → Begun
-begun_with used h = record { answer = Done (record { len = used }); handle = h }
+begun_with used h = record { answer = Ok (record { len = used }); handle = h }
 
 abbrev pub begun_number : Begun → ℕ
 begun_number r = changed_number r.answer

@@ -1,16 +1,12 @@
 -- Lists of entries, appended one after the other: the store then, the room left, the keys that are new. Assumes nothing.
-use Rattle.std.specs.Prelude.{ℕ, ◌+◌, ◌-◌, ◌/◌, ◌≤◌, ◌≡◌, Bool, true, false, List, [], ◌∷◌, length}
+use Rattle.bitcask.specs.declared.request.Used.{Used}
+use Rattle.keycode.specs.declared.refusal.Refusal.{Refusal}
+use Rattle.std.specs.Prelude.{ℕ, ◌+◌, ◌-◌, ◌/◌, ◌≤◌, ◌≡◌, Bool, true, false, List, [], ◌∷◌, length, Result, Ok, Err, Option, Some, ⊤}
 use Rattle.bitcask.specs.entry.Entry.{Entry, set, del, entry_key, entry_value}
 use Rattle.bitcask.specs.declared.keydir.slots.Slot.{Slot}
 use Rattle.bitcask.specs.keydir.Slots.{slot_words, slots_of}
 use Rattle.bitcask.specs.keydir.Place.{All}
 use Rattle.bitcask.specs.recovery.Map.{Pair, after, live_in}
-use Rattle.bitcask.specs.declared.request.Changed.{Changed}
-use Rattle.bitcask.specs.declared.request.Changed.TheVariants as Change
-use Rattle.bitcask.specs.declared.append.Room.{Room}
-use Rattle.bitcask.specs.declared.append.Room.TheVariants.{Left}
-use Rattle.bitcask.specs.declared.append.Check.{Check}
-use Rattle.bitcask.specs.declared.append.Check.TheVariants.{Fine, Refused}
 use Rattle.bitcask.specs.change.Append.{State, appended, room_after, fresh_in, judge, size_all}
 use Rattle.mvcc.specs.request.Checks.{on_fine, or_else}
 
@@ -24,7 +20,7 @@ appended_all s [] = s
 appended_all s (e ∷ es) = appended_all (appended s e) es
 
 -- the room that they leave
-unfoldable pub room_all : Room → List Entry → Room
+unfoldable pub room_all : Option ℕ → List Entry → Option ℕ
 room_all room [] = room
 room_all room (e ∷ es) = room_all (room_after room (length (entry_key e)) (length (entry_value e))) es
 
@@ -72,17 +68,17 @@ pub data Fitting (cap : ℕ) : List Entry → List Pair → Type 0 where
 
 -- ---- 7 and 8 of a list: what the engine's rule answers for it, the used length forgotten
 
-abbrev pub check_of : Changed → Check
-check_of (Change.Done u) = Fine
-check_of (Change.Refused r) = Refused r
+abbrev pub check_of : Result Used Refusal → Result ⊤ Refusal
+check_of (Ok u) = (Ok tt)
+check_of (Err r) = Err r
 
 -- ---- entries tried on any table
 
 -- 7 and 8 by the slots that the code counts
-unfoldable pub judge_all : List ℕ → ℕ → List ℕ → ℕ → List Entry → Check
-judge_all log used t n es = judge (room_all (Left (length log - used)) es) (fresh_all log es (slots_of n t)) (length t / slot_words - n)
+unfoldable pub judge_all : List ℕ → ℕ → List ℕ → ℕ → List Entry → Result ⊤ Refusal
+judge_all log used t n es = judge (room_all (Some (length log - used)) es) (fresh_all log es (slots_of n t)) (length t / slot_words - n)
 
-pub record Tries (log : List ℕ) (used : ℕ) (t : List ℕ) (n : ℕ) (es : List Entry) (r : Changed) (log' t' : List ℕ) : Type 0 where
-  pub answer : r ≡ or_else (judge_all log used t n es) (Change.Done (record { len = used + size_all es }))
+pub record Tries (log : List ℕ) (used : ℕ) (t : List ℕ) (n : ℕ) (es : List Entry) (r : Result Used Refusal) (log' t' : List ℕ) : Type 0 where
+  pub answer : r ≡ or_else (judge_all log used t n es) (Ok (record { len = used + size_all es }))
   pub bytes : log' ≡ on_fine (judge_all log used t n es) (appended_all (state_of log used t n) es).log log
   pub words : t' ≡ on_fine (judge_all log used t n es) (appended_all (state_of log used t n) es).table t

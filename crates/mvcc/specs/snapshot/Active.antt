@@ -1,6 +1,5 @@
 -- What a begin reads: NextVersion, and the versions open. Document 01, 'Transactions', and row 12 of 'Numbers returned'. Assumes nothing.
-use Rattle.std.specs.Prelude.{ℕ, ◌+◌, Bool, List, [], ◌∷◌, eqb, length, take, drop}
-use Rattle.std.proofs.Math.Option.{Option, none, some}
+use Rattle.std.specs.Prelude.{ℕ, ◌+◌, Bool, List, [], ◌∷◌, eqb, length, take, drop, Some, None, Option}
 use Rattle.keycode.specs.Tests.{pick}
 use Rattle.keycode.specs.Number.{num}
 use Rattle.keycode.specs.key.Keys.{encode, next_version}
@@ -12,47 +11,44 @@ use Rattle.bitcask.specs.engine.Spots.{look_row, row_value}
 use Rattle.bitcask.specs.engine.Ranges.{range_of}
 use Rattle.bitcask.specs.engine.Prefixes.{begins, end_bound, end_bytes}
 use Rattle.mvcc.specs.declared.handle.Handle.{Handle}
-use Rattle.mvcc.specs.declared.payload.VersionRead.{VersionRead}
-use Rattle.mvcc.specs.declared.payload.VersionRead.TheVariants.{Read, Bad as BadVersion}
 use Rattle.mvcc.specs.handle.Handles.{handle_of, blank_handle, with_all}
 use Rattle.mvcc.specs.payload.Payloads.{version_in}
 use Rattle.mvcc.specs.request.Ranges.{active_prefix}
 use Rattle.mvcc.specs.declared.snapshot.Seen.{Seen}
-use Rattle.mvcc.specs.declared.snapshot.Tally.TheVariants.{Open, Bad}
 
 -- ---- NextVersion
 
 -- no transaction has version 0
-abbrev pub next_by : VersionRead → VersionRead
-next_by BadVersion = BadVersion
-next_by (Read v) = pick (eqb v 0) BadVersion (Read v)
+abbrev pub next_by : Option ℕ → Option ℕ
+next_by None = None
+next_by (Some v) = pick (eqb v 0) None (Some v)
 
 -- by the payload of its record; a missing one means 1
-unfoldable pub next_of : Option (List ℕ) → VersionRead
-next_of none = Read 1
-next_of (some b) = next_by (version_in b)
+unfoldable pub next_of : Option (List ℕ) → Option ℕ
+next_of None = Some 1
+next_of (Some b) = next_by (version_in b)
 
 -- of rows, and of a map
-unfoldable pub next_in : List Row → VersionRead
+unfoldable pub next_in : List Row → Option ℕ
 next_in rs = next_of (row_value (look_row (encode next_version) rs))
 
-unfoldable pub next_at : List Pair → VersionRead
+unfoldable pub next_at : List Pair → Option ℕ
 next_at m = next_of (look_in (encode next_version) m)
 
 -- ---- the versions open
 
 -- the version of a key that is to be a TxnActive key: nine bytes, the first its tag
-unfoldable pub active_in : List ℕ → VersionRead
-active_in key = pick (eqb (length key) 9) (Read (num (take 8 (drop 1 key)))) BadVersion
+unfoldable pub active_in : List ℕ → Option ℕ
+active_in key = pick (eqb (length key) 9) (Some (num (take 8 (drop 1 key)))) None
 
-abbrev pub cons_read : VersionRead → Option (List ℕ) → Option (List ℕ)
-cons_read BadVersion o = none
-cons_read (Read v) none = none
-cons_read (Read v) (some vs) = some (v ∷ vs)
+abbrev pub cons_read : Option ℕ → Option (List ℕ) → Option (List ℕ)
+cons_read None o = None
+cons_read (Some v) None = None
+cons_read (Some v) (Some vs) = Some (v ∷ vs)
 
 -- the versions of keys; none where one is no TxnActive key
 unfoldable pub versions_in : List (List ℕ) → Option (List ℕ)
-versions_in [] = some []
+versions_in [] = Some []
 versions_in (k ∷ ks) = cons_read (active_in k) (versions_in ks)
 
 unfoldable pub keys_in : List Row → List (List ℕ)
@@ -77,13 +73,13 @@ active_at m = versions_in (active_keys m)
 -- ---- both, as the code has them
 
 abbrev pub bad_seen : Seen
-bad_seen = record { tally = Bad; handle = blank_handle }
+bad_seen = record { tally = None; handle = blank_handle }
 
 -- behind n versions that the handle has already
 unfoldable pub seen_from : ℕ → Handle → Option (List ℕ) → Seen
-seen_from n h none = bad_seen
-seen_from n h (some vs) = record { tally = Open (n + length vs); handle = with_all h vs }
+seen_from n h None = bad_seen
+seen_from n h (Some vs) = record { tally = Some (n + length vs); handle = with_all h vs }
 
-abbrev pub seen_by : Bool → VersionRead → Option (List ℕ) → Seen
-seen_by ro BadVersion o = bad_seen
-seen_by ro (Read v) o = seen_from 0 (handle_of v ro []) o
+abbrev pub seen_by : Bool → Option ℕ → Option (List ℕ) → Seen
+seen_by ro None o = bad_seen
+seen_by ro (Some v) o = seen_from 0 (handle_of v ro []) o

@@ -1,10 +1,9 @@
 -- What begin promises, in three parts. Always: what a refusal leaves. Request: the number that needs no table, exactly in its case.
 -- Agreed: where the table agrees with the log, the answer and every byte are the map's. Assumes nothing.
-use Rattle.std.specs.Prelude.{ℕ, ◌+◌, ◌≤◌, ◌≡◌, not, List, eqb, length}
+use Rattle.std.specs.Prelude.{ℕ, ◌+◌, ◌≤◌, ◌≡◌, not, List, eqb, length, Ok}
 use Rattle.keycode.specs.Tests.{if_done}
 use Rattle.keycode.specs.Buffer.{put}
 use Rattle.bitcask.specs.declared.request.Used.{Used}
-use Rattle.bitcask.specs.declared.request.Changed.TheVariants.{Done}
 use Rattle.bitcask.specs.recovery.Recover.{map_of}
 use Rattle.bitcask.specs.recovery.Agree.{fit, Agrees}
 use Rattle.bitcask.specs.change.Append.{size_all, bytes_all, after_all}
@@ -20,7 +19,7 @@ pub record Begins (log : List ℕ) (used : ℕ) (t : List ℕ) (r : Begun) (log'
   pub bytes : log' ≡ if_done (begun_number r) (put log used (bytes_all (plan_of r.handle))) log
   pub words : t' ≡ if_done (begun_number r) t' t
   pub long : length t' ≡ length t
-  pub ends : (u : Used) → r.answer ≡ Done u → (u.len ≡ used + size_all (plan_of r.handle)) × (used + size_all (plan_of r.handle) ≤ length log)
+  pub ends : (u : Used) → r.answer ≡ Ok u → (u.len ≡ used + size_all (plan_of r.handle)) × (used + size_all (plan_of r.handle) ≤ length log)
   pub blank : r.handle ≡ if_done (begun_number r) r.handle blank_handle
   -- request
   pub bad : eqb (begun_number r) 13 ≡ not (fit (length log) used (length t))

@@ -1,14 +1,13 @@
 -- Rows' writes undone, as the code does it for any table. Assumes nothing.
-use Rattle.std.specs.Prelude.{ℕ, zero, suc, ◌+◌, ◌≡◌, List, [], ◌∷◌, ◌++◌, ltb, length, get_or}
-use Rattle.std.proofs.Math.Option.{Option, none, some}
+use Rattle.bitcask.specs.declared.request.Used.{Used}
+use Rattle.keycode.specs.declared.refusal.Refusal.{Refusal}
+use Rattle.std.specs.Prelude.{ℕ, zero, suc, ◌+◌, ◌≡◌, List, [], ◌∷◌, ◌++◌, ltb, length, get_or, Result, Err, Option, None, Some}
 use Rattle.keycode.specs.Tests.{pick}
 use Rattle.keycode.specs.key.Keys.{encode, version}
 use Rattle.keycode.specs.declared.refusal.Refusal.TheVariants.{BadStore}
 use Rattle.keycode.specs.declared.code.Code.{Code}
 use Rattle.keycode.specs.code.Codes.{Codes}
 use Rattle.bitcask.specs.entry.Entry.{Entry, del}
-use Rattle.bitcask.specs.declared.request.Changed.{Changed}
-use Rattle.bitcask.specs.declared.request.Changed.TheVariants as Change
 use Rattle.bitcask.specs.change.Append.{State, append_answer}
 use Rattle.bitcask.specs.declared.engine.mark.Mark.{Mark}
 use Rattle.bitcask.specs.engine.Rows.{Row, blank, rows, pairs}
@@ -18,7 +17,7 @@ use Rattle.mvcc.specs.end.Ways.{del_where, Closes}
 
 -- the code of the Version key that a TxnWrite key names
 pub record Names (b : List ℕ) (v : ℕ) (r : Code) : Type 0 where
-  pub names : (u : List ℕ) → user_in b ≡ some u → Codes r (encode (version u v))
+  pub names : (u : List ℕ) → user_in b ≡ Some u → Codes r (encode (version u v))
 
 -- ---- one write
 
@@ -32,8 +31,8 @@ end_where s i = pick (ltb i (length (rows_at s))) (ended_span s i (i + 1)) s
 
 -- the version of a user key deleted, and then the row of number i
 abbrev pub undo_one : State → ℕ → ℕ → Option (List ℕ) → State
-undo_one s i v none = s
-undo_one s i v (some u) = end_where (del_where s (encode (version u v))) i
+undo_one s i v None = s
+undo_one s i v (Some u) = end_where (del_where s (encode (version u v))) i
 
 -- the write that the key of row number i records, where there is one
 unfoldable pub undo_row : State → ℕ → ℕ → State
@@ -49,6 +48,6 @@ undo_many (suc n) s i v = undo_many n (undo_row s i v) i v
 unfoldable pub undoing : ℕ → List Row → List ℕ → List Entry
 undoing v rs key = undos_of v (pairs rs) ++ (del key ∷ [])
 
-abbrev pub Undoes : List ℕ → List ℕ → Mark → List Row → ℕ → List ℕ → Changed → List ℕ → List ℕ → Type 0
+abbrev pub Undoes : List ℕ → List ℕ → Mark → List Row → ℕ → List ℕ → Result Used Refusal → List ℕ → List ℕ → Type 0
 Undoes log t m rs v key r log' t' =
-    Closes log t m (undoing v rs key) (0 ∷ 7 ∷ 12 ∷ []) (pick (all_users (pairs rs)) (append_answer log m.used.len (length t) (undoing v rs key)) (Change.Refused BadStore)) r log' t'
+    Closes log t m (undoing v rs key) (0 ∷ 7 ∷ 12 ∷ []) (pick (all_users (pairs rs)) (append_answer log m.used.len (length t) (undoing v rs key)) (Err BadStore)) r log' t'

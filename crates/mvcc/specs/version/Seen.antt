@@ -1,7 +1,7 @@
 -- What records say to a handle: of rows by the places of their keys and values, and of the map's pairs by the values themselves.
 -- Document 01, 'Transactions'. Assumes nothing.
-use Rattle.std.specs.Prelude.{ℕ, ◌+◌, ◌-◌, Bool, List, [], ◌∷◌}
-use Rattle.std.proofs.Math.Option.{Option, none, some}
+use Rattle.keycode.specs.declared.refusal.Refusal.{Refusal}
+use Rattle.std.specs.Prelude.{ℕ, ◌+◌, ◌-◌, Bool, List, [], ◌∷◌, Result, Ok, Err, Some, None, Option}
 use Rattle.keycode.specs.Tests.{pick}
 use Rattle.keycode.specs.Limits.{max_key}
 use Rattle.keycode.specs.key.Keys.{encode, version, decode_why, forget}
@@ -9,19 +9,13 @@ use Rattle.keycode.specs.declared.refusal.Refusal.TheVariants.{Absent, BadStore}
 use Rattle.keycode.specs.declared.parts.Part.{Part}
 use Rattle.keycode.specs.declared.key.Key.{Key}
 use Rattle.keycode.specs.declared.key.Key.TheVariants.{NextVersion, TxnActive, TxnActiveSnapshot, TxnWrite, Version, Unversioned}
-use Rattle.keycode.specs.declared.key.Decoded.{Decoded}
-use Rattle.keycode.specs.declared.key.Decoded.TheVariants.{Whole, Refused}
 use Rattle.bitcask.specs.recovery.Map.{Pair}
 use Rattle.bitcask.specs.declared.answers.Bound.TheVariants.{Included}
-use Rattle.bitcask.specs.declared.answers.Located.{Located}
-use Rattle.bitcask.specs.declared.answers.Located.TheVariants as Got
 use Rattle.bitcask.specs.engine.Rows.{Row, key_place, value_place}
 use Rattle.bitcask.specs.engine.Spots.{upto_rank}
 use Rattle.bitcask.specs.engine.Ranges.{inside}
 use Rattle.bitcask.specs.engine.Walks.{down_from}
 use Rattle.mvcc.specs.declared.handle.Handle.{Handle}
-use Rattle.mvcc.specs.declared.payload.VersionRead.{VersionRead}
-use Rattle.mvcc.specs.declared.payload.VersionRead.TheVariants.{Read, Bad as NoVersion}
 use Rattle.mvcc.specs.declared.payload.ValueRead.{ValueRead}
 use Rattle.mvcc.specs.declared.payload.ValueRead.TheVariants as Payload
 use Rattle.mvcc.specs.handle.Handles.{sees}
@@ -43,16 +37,16 @@ label_key (TxnWrite v p) = Label.None
 label_key (Version p v) = Label.Of p v
 label_key (Unversioned p) = Label.None
 
-abbrev pub label_by : Decoded → Label
-label_by (Whole k) = label_key k
-label_by (Refused r) = Label.None
+abbrev pub label_by : Result Key Refusal → Label
+label_by (Ok k) = label_key k
+label_by (Err r) = Label.None
 
 -- the version alone
-abbrev pub version_in : Label → VersionRead
-version_in Label.None = NoVersion
-version_in (Label.Of p v) = Read v
+abbrev pub version_in : Label → Option ℕ
+version_in Label.None = None
+version_in (Label.Of p v) = Some v
 
-abbrev pub version_of : Decoded → VersionRead
+abbrev pub version_of : Result Key Refusal → Option ℕ
 version_of d = version_in (label_by d)
 
 -- a part without its first bytes
@@ -76,9 +70,9 @@ abbrev pub seen_as : Handle → Seen → ℕ → Seen
 seen_as h i v = pick (sees h v) i Hidden
 
 -- a key that does not decode, then a version that is not seen, then the payload
-abbrev pub seen_by : Handle → Seen → VersionRead → Seen
-seen_by h i NoVersion = Bad
-seen_by h i (Read v) = seen_as h i v
+abbrev pub seen_by : Handle → Seen → Option ℕ → Seen
+seen_by h i None = Bad
+seen_by h i (Some v) = seen_as h i v
 
 unfoldable pub seen_row : Handle → Row → Seen
 seen_row h r = seen_by h (row_says r) (version_of (forget (decode_why max_key r.key)))
@@ -104,11 +98,11 @@ last_rows h [] = Hidden
 last_rows h (r ∷ rs) = or_else (last_rows h rs) (seen_row h r)
 
 -- the answer that it is: 1 where none decides
-abbrev pub located_seen : Seen → Located
-located_seen Hidden = Got.Refused Absent
-located_seen Gone = Got.Refused Absent
-located_seen Bad = Got.Refused BadStore
-located_seen (Value p) = Got.At p
+abbrev pub located_seen : Seen → Result Part Refusal
+located_seen Hidden = Err Absent
+located_seen Gone = Err Absent
+located_seen Bad = Err BadStore
+located_seen (Value p) = Ok p
 
 -- ---- the versions of a key from 0 to v, both included
 
@@ -121,24 +115,24 @@ version_rows key v rs = down_from Included (encode (version key 0)) rs (upto_ran
 
 -- ---- the same of pairs: none where no record decides; else what the payload holds
 
-abbrev pub pair_by : Handle → Option (Option (List ℕ)) → VersionRead → Option (Option (Option (List ℕ)))
-pair_by h i NoVersion = some none
-pair_by h i (Read v) = pick (sees h v) (some i) none
+abbrev pub pair_by : Handle → Option (Option (List ℕ)) → Option ℕ → Option (Option (Option (List ℕ)))
+pair_by h i None = Some None
+pair_by h i (Some v) = pick (sees h v) (Some i) None
 
 unfoldable pub pair_says : Handle → Pair → Option (Option (Option (List ℕ)))
 pair_says h q = pair_by h (value_at q.value (value_in q.value)) (version_of (forget (decode_why max_key q.key)))
 
 abbrev pub or_pair : Option (Option (Option (List ℕ))) → Option (Option (Option (List ℕ))) → Option (Option (Option (List ℕ)))
-or_pair none t = t
-or_pair (some i) t = some i
+or_pair None t = t
+or_pair (Some i) t = Some i
 
 unfoldable pub last_pair : Handle → List Pair → Option (Option (Option (List ℕ)))
-last_pair h [] = none
+last_pair h [] = None
 last_pair h (q ∷ m) = or_pair (last_pair h m) (pair_says h q)
 
 abbrev pub or_gone : Option (Option (Option (List ℕ))) → Option (Option (List ℕ))
-or_gone none = some none
-or_gone (some i) = i
+or_gone None = Some None
+or_gone (Some i) = i
 
 -- the value that a handle sees in a key's pairs, or none where there is none; or that the store is bad there
 unfoldable pub value_for : Handle → List Pair → Option (Option (List ℕ))

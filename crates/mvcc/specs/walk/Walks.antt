@@ -1,15 +1,15 @@
 -- A scan's step over rows in the order of their keys. It reads to the last Version record of the key that it gives: a key before that
 -- which does not decode is 12, one behind it is not read. Where it gives none it reads all. Document 01, 'Transactions'. Assumes nothing.
-use Rattle.std.specs.Prelude.{ℕ, Bool, true, false, List, [], ◌∷◌, take, drop}
+use Rattle.bitcask.specs.declared.answers.KeyValue.{KeyValue}
+use Rattle.keycode.specs.declared.refusal.Refusal.{Refusal}
+use Rattle.std.specs.declared.cmp.Ordering.{Ordering}
+use Rattle.std.specs.declared.cmp.Ordering.TheVariants.{Less, Equal, Greater}
+use Rattle.std.specs.Prelude.{ℕ, Bool, true, false, List, [], ◌∷◌, take, drop, Result, Ok, Err}
 use Rattle.keycode.specs.Tests.{pick}
 use Rattle.keycode.specs.Order.{compare_bytes}
-use Rattle.keycode.specs.declared.order.Order.{Order}
-use Rattle.keycode.specs.declared.order.Order.TheVariants.{Less, Equal, Greater}
 use Rattle.keycode.specs.declared.parts.Part.{Part}
 use Rattle.keycode.specs.declared.refusal.Refusal.TheVariants.{Absent, BadStore}
 use Rattle.bitcask.specs.declared.answers.Bound.{Bound}
-use Rattle.bitcask.specs.declared.answers.Stepped.{Stepped}
-use Rattle.bitcask.specs.declared.answers.Stepped.TheVariants as Step
 use Rattle.bitcask.specs.read.Ranks.{admits_high}
 use Rattle.bitcask.specs.engine.Rows.{Row}
 use Rattle.mvcc.specs.declared.handle.Handle.{Handle}
@@ -34,7 +34,7 @@ up_from upper high rs n = up_to upper high (drop n rs)
 
 -- ---- the same user key
 
-abbrev pub is_equal : Order → Bool
+abbrev pub is_equal : Ordering → Bool
 is_equal Less = false
 is_equal Equal = true
 is_equal Greater = false
@@ -55,11 +55,11 @@ later_by key old k Bad = Within k Bad
 later_by key old k (Value v) = Within k (Value v)
 
 -- the step's answer where it ends with the group
-abbrev pub group_answer : Part → Seen → Stepped
-group_answer key Hidden = Step.Refused Absent
-group_answer key Gone = Step.Refused Absent
-group_answer key Bad = Step.Refused BadStore
-group_answer key (Value v) = Step.Next key v
+abbrev pub group_answer : Part → Seen → Result KeyValue Refusal
+group_answer key Hidden = Err Absent
+group_answer key Gone = Err Absent
+group_answer key Bad = Err BadStore
+group_answer key (Value v) = Ok (record { key = key; value = v })
 
 -- ---- one record more
 
@@ -67,18 +67,18 @@ group_answer key (Value v) = Step.Next key v
 abbrev pub closed_by : Part → Part → Seen → Seen → Walk
 closed_by key k new Hidden = Within k new
 closed_by key k new Gone = Within k new
-closed_by key k new Bad = Over (Step.Refused BadStore)
-closed_by key k new (Value v) = Over (Step.Next key v)
+closed_by key k new Bad = Over (Err BadStore)
+closed_by key k new (Value v) = Over (Ok (record { key = key; value = v }))
 
 -- a key that does not decode, behind versions of a group
 abbrev pub spoilt_by : Part → Seen → Walk
-spoilt_by key Hidden = Over (Step.Refused BadStore)
-spoilt_by key Gone = Over (Step.Refused BadStore)
-spoilt_by key Bad = Over (Step.Refused BadStore)
+spoilt_by key Hidden = Over (Err BadStore)
+spoilt_by key Gone = Over (Err BadStore)
+spoilt_by key Bad = Over (Err BadStore)
 spoilt_by key (Value v) = Broken key v
 
 abbrev pub opened_by : Record → Walk
-opened_by Junk = Over (Step.Refused BadStore)
+opened_by Junk = Over (Err BadStore)
 opened_by (Good key seen) = Within key seen
 
 abbrev pub within_by : List ℕ → Part → Seen → Record → Walk
@@ -88,7 +88,7 @@ within_by log key seen (Good k new) = pick (same_string log key k) (later_by key
 -- a version of the group behind a key that does not decode: the step had to read that key
 abbrev pub broken_by : List ℕ → Part → Part → Record → Walk
 broken_by log key value Junk = Broken key value
-broken_by log key value (Good k new) = pick (same_string log key k) (Over (Step.Refused BadStore)) (Over (Step.Next key value))
+broken_by log key value (Good k new) = pick (same_string log key k) (Over (Err BadStore)) (Over (Ok (record { key = key; value = value })))
 
 abbrev pub next_walk : List ℕ → Walk → Record → Walk
 next_walk log Start x = opened_by x
@@ -96,10 +96,10 @@ next_walk log (Within key seen) x = within_by log key seen x
 next_walk log (Broken key value) x = broken_by log key value x
 next_walk log (Over answer) x = Over answer
 
-abbrev pub ended_by : Walk → Stepped
-ended_by Start = Step.Refused Absent
+abbrev pub ended_by : Walk → Result KeyValue Refusal
+ended_by Start = Err Absent
 ended_by (Within key seen) = group_answer key seen
-ended_by (Broken key value) = Step.Next key value
+ended_by (Broken key value) = Ok (record { key = key; value = value })
 ended_by (Over answer) = answer
 
 -- the answer is known, and no record behind changes it
@@ -115,5 +115,5 @@ unfoldable pub walk_rows : Handle → List ℕ → Walk → List Row → Walk
 walk_rows h log w [] = w
 walk_rows h log w (r ∷ rs) = walk_rows h log (next_walk log w (record_row h r)) rs
 
-unfoldable pub step_rows : Handle → List ℕ → List Row → Stepped
+unfoldable pub step_rows : Handle → List ℕ → List Row → Result KeyValue Refusal
 step_rows h log rs = ended_by (walk_rows h log Start rs)

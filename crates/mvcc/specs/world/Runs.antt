@@ -1,8 +1,8 @@
 -- Runs: any mix of calls, each on the world that the last one left and with handles that the store gave. Document 01, 'Demands', the third.
 -- Assumes nothing.
-use Rattle.std.specs.Prelude.{ℕ, ◌≡◌, Bool, true, List, [], ◌∷◌}
-use Rattle.std.proofs.Math.Option.{Option, none, some}
-use Rattle.bitcask.specs.declared.request.Changed.{Changed}
+use Rattle.bitcask.specs.declared.request.Used.{Used}
+use Rattle.keycode.specs.declared.refusal.Refusal.{Refusal}
+use Rattle.std.specs.Prelude.{ℕ, ◌≡◌, Bool, true, List, [], ◌∷◌, Result, Option, None, Some}
 use Rattle.bitcask.specs.recovery.Promises.{changed_number, Opens}
 use Rattle.mvcc.specs.declared.handle.Handle.{Handle}
 use Rattle.mvcc.specs.declared.begun.Begun.{Begun}
@@ -28,36 +28,36 @@ pub data Given (h : Handle) (T : Calls) : Type 0 where
 
 -- the handle that a call is made with
 abbrev pub handle_in : Call → Option Handle
-handle_in (opens r) = none
-handle_in (compacts r) = none
-handle_in (begins r) = none
-handle_in (begins_reading r) = none
-handle_in (begins_as_of v r) = none
-handle_in (resumes h r) = some h
-handle_in (gets h k r) = some h
-handle_in (sets h k v r) = some h
-handle_in (deletes h k r) = some h
-handle_in (scans h lower low upper high given last r) = some h
-handle_in (scans_prefix h prefix given last r) = some h
-handle_in (commits h r) = some h
-handle_in (rolls_back h r) = some h
-handle_in (gets_plain k r) = none
-handle_in (sets_plain k v r) = none
-handle_in (states r) = none
-handle_in (counts r) = none
-handle_in (looks k r) = none
-handle_in (steps lower low upper high given last r) = none
-handle_in (checks r) = none
+handle_in (opens r) = None
+handle_in (compacts r) = None
+handle_in (begins r) = None
+handle_in (begins_reading r) = None
+handle_in (begins_as_of v r) = None
+handle_in (resumes h r) = Some h
+handle_in (gets h k r) = Some h
+handle_in (sets h k v r) = Some h
+handle_in (deletes h k r) = Some h
+handle_in (scans h lower low upper high given last r) = Some h
+handle_in (scans_prefix h prefix given last r) = Some h
+handle_in (commits h r) = Some h
+handle_in (rolls_back h r) = Some h
+handle_in (gets_plain k r) = None
+handle_in (sets_plain k v r) = None
+handle_in (states r) = None
+handle_in (counts r) = None
+handle_in (looks k r) = None
+handle_in (steps lower low upper high given last r) = None
+handle_in (checks r) = None
 
 -- it was given before: by this store, with 0, and is unaltered
 abbrev pub Fair : Call → Calls → Type 0
-Fair c T = (h : Handle) → handle_in c ≡ some h → Given h T
+Fair c T = (h : Handle) → handle_in c ≡ Some h → Given h T
 
 -- ---- runs: any mix of calls, from the opening of a log of which nothing is used, of any size and any bytes, with any table; after a
 -- refused opening the next call is an opening
 
 pub data Run : Bool → World → Calls → Type 0 where
-  first : (log t : List ℕ) {r : Changed} {t' : List ℕ} → Opens log 0 t r t' → Run (is_done r) (record { log = log; used = used_by r 0; table = t' }) (opens r ∷ [])
-  opened : {b : Bool} {w : World} {T : Calls} → Run b w T → (t : List ℕ) {r : Changed} {t' : List ℕ} → Opens w.log w.used t r t'
+  first : (log t : List ℕ) {r : Result Used Refusal} {t' : List ℕ} → Opens log 0 t r t' → Run (is_done r) (record { log = log; used = used_by r 0; table = t' }) (opens r ∷ [])
+  opened : {b : Bool} {w : World} {T : Calls} → Run b w T → (t : List ℕ) {r : Result Used Refusal} {t' : List ℕ} → Opens w.log w.used t r t'
       → Run (is_done r) (record { log = w.log; used = used_by r w.used; table = t' }) (opens r ∷ T)
   called : {w w' : World} {T : Calls} {c : Call} → Run true w T → Fair c T → Step w c w' → Run true w' (c ∷ T)

@@ -1,11 +1,12 @@
 -- What the writes promise, in three parts. Always: what a refusal leaves, and that nothing outside changes. Request: the numbers that need
 -- no table, exactly in their cases. Agreed: where the table agrees with the log, the answer and every byte are the map's, and the table
 -- agrees again. docs/TABLES.md says why the last part has that condition. Assumes nothing.
-use Rattle.std.specs.Prelude.{ℕ, ◌≡◌, Bool, true, false, not, List, leb, eqb, length}
+use Rattle.bitcask.specs.declared.request.Used.{Used}
+use Rattle.keycode.specs.declared.refusal.Refusal.{Refusal}
+use Rattle.std.specs.Prelude.{ℕ, ◌≡◌, Bool, true, false, not, List, leb, eqb, length, Result}
 use Rattle.keycode.specs.Tests.{pick}
 use Rattle.keycode.specs.Limits.{max_key, max_value}
 use Rattle.bitcask.specs.entry.Entry.{Entry}
-use Rattle.bitcask.specs.declared.request.Changed.{Changed}
 use Rattle.bitcask.specs.recovery.Recover.{map_of}
 use Rattle.bitcask.specs.recovery.Agree.{fit, Agrees}
 use Rattle.bitcask.specs.recovery.Promises.{changed_number}
@@ -32,13 +33,13 @@ pub record Early (fits sound reads own short small : Bool) (n : ℕ) : Type 0 wh
   pub value_long : eqb n 5 ≡ pick (may_write fits sound reads) (pick (eqb n 3) false (pick short (not small) false)) false
 
 -- the checks, the search, and the entries' own 7 and 8, all of the map
-unfoldable pub write_answer : List ℕ → ℕ → ℕ → Handle → List ℕ → ℕ → List Entry → Changed
+unfoldable pub write_answer : List ℕ → ℕ → ℕ → Handle → List ℕ → ℕ → List Entry → Result Used Refusal
 write_answer log used words h key size es =
     or_else (allow_by (fit (length log) used words) (sound_handle h) h.read_only (open_by h (live_in (active_key h) (map_of log used))) (leb (length key) max_key) (leb size max_value))
     (or_else (search_by h (pairs_of (searched h key) (map_of log used))) (append_answer log used words es))
 
 -- a write of a payload with so many bytes of the user's
-pub record Writes (log : List ℕ) (used : ℕ) (t : List ℕ) (h : Handle) (key payload : List ℕ) (size : ℕ) (r : Changed) (log' t' : List ℕ) : Type 0 where
+pub record Writes (log : List ℕ) (used : ℕ) (t : List ℕ) (h : Handle) (key payload : List ℕ) (size : ℕ) (r : Result Used Refusal) (log' t' : List ℕ) : Type 0 where
   pub leaves : Leaves log used t (plan h.version key payload) r log' t'
   -- request
   pub early : Early (fit (length log) used (length t)) (sound_handle h) h.read_only (own_version h.version) (leb (length key) max_key) (leb size max_value) (changed_number r)

@@ -1,18 +1,17 @@
 -- A transaction's write: the tests in document 01's order of refusals, and the entries. Document 01, 'Transactions' and 'Numbers returned'.
 -- Assumes nothing.
-use Rattle.std.specs.Prelude.{ℕ, Bool, List, [], ◌∷◌}
+use Rattle.keycode.specs.declared.refusal.Refusal.{Refusal}
+use Rattle.std.specs.Prelude.{ℕ, Bool, List, [], ◌∷◌, Result, ⊤, Err}
 use Rattle.keycode.specs.Tests.{pick}
 use Rattle.keycode.specs.declared.refusal.Refusal.TheVariants.{ReadOnly, NotOpen, BadRequest}
 use Rattle.keycode.specs.key.Keys.{encode, txn_write, version}
 use Rattle.bitcask.specs.entry.Entry.{Entry, set}
-use Rattle.bitcask.specs.declared.append.Check.{Check}
-use Rattle.bitcask.specs.declared.append.Check.TheVariants.{Refused}
 use Rattle.mvcc.specs.append.Lays.{sizes_by}
 
 -- 13 for the sizes of the request and for the handle, 2, 3, 4, 5
-unfoldable pub allow_by : Bool → Bool → Bool → Bool → Bool → Bool → Check
+unfoldable pub allow_by : Bool → Bool → Bool → Bool → Bool → Bool → Result ⊤ Refusal
 allow_by fits sound reads active short small =
-    pick fits (pick sound (pick reads (Refused ReadOnly) (pick active (sizes_by short small) (Refused NotOpen))) (Refused BadRequest)) (Refused BadRequest)
+    pick fits (pick sound (pick reads (Err ReadOnly) (pick active (sizes_by short small) (Err NotOpen))) (Err BadRequest)) (Err BadRequest)
 
 -- the entries: TxnWrite, then Version with its payload
 unfoldable pub plan : ℕ → List ℕ → List ℕ → List Entry

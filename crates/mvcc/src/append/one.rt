@@ -4,12 +4,13 @@ ghost use Rattle.bitcask.specs.entry.Entry.{set as set_entry};
 ghost use Rattle.bitcask.specs.engine.Marks.{mark_of, Held};
 ghost use Rattle.mvcc.specs.append.Appends.{Appends};
 
-use bitcask::Changed;
-use bitcask::append::{Check, room_after};
+use bitcask::Used;
+use bitcask::append::room_after;
 use bitcask::engine::Mark;
 use bitcask::engine::change::{append_set, wants};
 use bitcask::engine::judging::{judge, room_in};
 use bitcask::engine::spot::find;
+use keycode::Refusal;
 
 pub(crate) fn append_one(
     log: &mut [u8],
@@ -17,7 +18,7 @@ pub(crate) fn append_one(
     mark: Mark,
     key: &[u8],
     value: &[u8],
-) -> Changed
+) -> Result<Used, Refusal>
     requires { (Held log.old table.old mark) × (mark ≡ mark_of mark.used table.old) }
     ensures { Appends log.old table.old mark (set_entry key.now value.now ∷ []) result log.new table.new }
 {
@@ -25,12 +26,12 @@ pub(crate) fn append_one(
     let room = room_in(log, table, mark);
     let left = room_after(room, key.len(), value.len());
     match judge(log, table, mark, left, wants(found)) {
-        Check::Refused(r) => Changed::Refused(r),
-        Check::Fine => {
+        Err(r) => Err(r),
+        Ok(()) => {
             let none = &value[..0];
             let last = append_set(log, table, mark, found, key, value, none);
             let used = last.used;
-            Changed::Done(used)
+            Ok(used)
         }
     }
 }

@@ -1,17 +1,18 @@
 // Three sets appended, all or none: one search for each key, by which they are judged and laid.
+ghost use Rattle.std.specs.declared.cmp.Ordering.TheVariants.{Less};
 ghost use Rattle.std.specs.Prelude.{◌≡◌, [], ◌∷◌};
 ghost use Rattle.keycode.specs.Order.{compare_bytes};
-ghost use Rattle.keycode.specs.declared.order.Order.TheVariants.{Less};
 ghost use Rattle.bitcask.specs.entry.Entry.{set as set_entry};
 ghost use Rattle.bitcask.specs.engine.Marks.{mark_of, Held};
 ghost use Rattle.mvcc.specs.append.Appends.{Appends};
 
-use bitcask::Changed;
-use bitcask::append::{Check, room_after};
+use bitcask::Used;
+use bitcask::append::room_after;
 use bitcask::engine::Mark;
 use bitcask::engine::change::{append_set, behind, wants};
 use bitcask::engine::judging::{judge, room_in};
 use bitcask::engine::spot::find;
+use keycode::Refusal;
 
 // The third key has no value, and lies between the two others: the first moves its place on, the second, which is greater, does not.
 pub(crate) fn append_three(
@@ -23,7 +24,7 @@ pub(crate) fn append_three(
     second: &[u8],
     payload: &[u8],
     third: &[u8],
-) -> Changed
+) -> Result<Used, Refusal>
     requires { (Held log.old table.old mark) × (mark ≡ mark_of mark.used table.old) × (compare_bytes first.now third.now ≡ Less) × (compare_bytes third.now second.now ≡ Less) }
     ensures { Appends log.old table.old mark
         (set_entry first.now value.now ∷ set_entry second.now payload.now ∷ set_entry third.now [] ∷ []) result log.new table.new }
@@ -36,8 +37,8 @@ pub(crate) fn append_three(
     let rest = room_after(left, second.len(), payload.len());
     let end = room_after(rest, third.len(), 0);
     match judge(log, table, mark, end, wants(a) + wants(b) + wants(d)) {
-        Check::Refused(r) => Changed::Refused(r),
-        Check::Fine => {
+        Err(r) => Err(r),
+        Ok(()) => {
             let none = &value[..0];
             let one = append_set(log, table, mark, a, first, value, none);
             let place = behind(mark, one, b);
@@ -45,7 +46,7 @@ pub(crate) fn append_three(
             let two = append_set(log, table, one, place, second, payload, none);
             let last = append_set(log, table, two, between, third, none, none);
             let used = last.used;
-            Changed::Done(used)
+            Ok(used)
         }
     }
 }

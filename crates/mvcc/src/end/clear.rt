@@ -8,8 +8,8 @@ ghost use Rattle.bitcask.specs.engine.Prefixes.{Prefixes};
 ghost use Rattle.mvcc.specs.request.Ranges.{write_prefix};
 ghost use Rattle.mvcc.specs.end.Ways.{store_of, del_where, Clears};
 
-use bitcask::Changed;
-use bitcask::append::{Room, room_after};
+use bitcask::Used;
+use bitcask::append::room_after;
 use bitcask::engine::change::append_del;
 use bitcask::engine::ending::end_span;
 use bitcask::engine::span::{prefix_span, span_room};
@@ -49,25 +49,19 @@ pub(crate) fn clear(
     mark: Mark,
     span: Span,
     key: &[u8],
-) -> Changed
+) -> Result<Used, Refusal>
     requires { (Held log.old table.old mark) × (mark ≡ mark_of mark.used table.old) × (rank span.to (rows log.old table.old mark) ≤ length (rows log.old table.old mark)) }
     ensures { Clears log.old table.old mark (between span.from span.to (rows log.old table.old mark))
         key.now result log.new table.new }
 {
-    let room = span_room(
-        log,
-        table,
-        mark,
-        Room::Left(log.len() - mark.used.len),
-        span,
-    );
+    let room = span_room(log, table, mark, Some(log.len() - mark.used.len), span);
     match room_after(room, key.len(), 0) {
-        Room::Full => Changed::Refused(Refusal::LogFull),
-        Room::Left(_) => {
+        None => Err(Refusal::LogFull),
+        Some(_) => {
             let mid = end_span(log, table, mark, span);
             let last = del_key(log, table, mid, key);
             let used = last.used;
-            Changed::Done(used)
+            Ok(used)
         }
     }
 }

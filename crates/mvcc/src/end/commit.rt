@@ -4,9 +4,15 @@ ghost use Rattle.mvcc.specs.end.Promises.{Commits};
 
 use crate::end::{Way, finish};
 use crate::handle::Handle;
-use bitcask::{Changed, Used};
+use bitcask::Used;
+use keycode::Refusal;
 
-pub fn commit(log: &mut [u8], used: Used, table: &mut [u32], handle: Handle) -> Changed
+pub fn commit(
+    log: &mut [u8],
+    used: Used,
+    table: &mut [u32],
+    handle: Handle,
+) -> Result<Used, Refusal>
     ensures { Commits log.old used.len table.old handle result log.new table.new }
 {
     finish(log, used, table, handle, Way::Commit)

@@ -4,9 +4,15 @@ ghost use Rattle.mvcc.specs.end.Promises.{RollsBack};
 
 use crate::end::{Way, finish};
 use crate::handle::Handle;
-use bitcask::{Changed, Used};
+use bitcask::Used;
+use keycode::Refusal;
 
-pub fn rollback(log: &mut [u8], used: Used, table: &mut [u32], handle: Handle) -> Changed
+pub fn rollback(
+    log: &mut [u8],
+    used: Used,
+    table: &mut [u32],
+    handle: Handle,
+) -> Result<Used, Refusal>
     ensures { RollsBack log.old used.len table.old handle result log.new table.new }
 {
     finish(log, used, table, handle, Way::Rollback)

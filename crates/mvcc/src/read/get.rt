@@ -7,15 +7,15 @@ ghost use Rattle.mvcc.specs.version.Seen.{located_seen};
 ghost use Rattle.mvcc.specs.read.Promises.{Gets};
 ghost use Rattle.mvcc.specs.version.Seen.{last_rows, version_rows};
 
-use crate::admission::{Admitted, admit};
+use crate::admission::admit;
 use crate::handle::Handle;
 use crate::version::{Seen, seek};
 use bitcask::engine::Mark;
 use bitcask::engine::spot::past;
-use bitcask::{Bound, Located, Used};
-use keycode::Refusal;
+use bitcask::{Bound, Used};
 use keycode::code::version_code;
 use keycode::limits::MAX_KEY;
+use keycode::{Part, Refusal};
 
 // What the versions of a key up to the handle's own say.
 fn highest(log: &[u8], table: &[u32], mark: Mark, handle: Handle, key: &[u8]) -> Seen
@@ -32,25 +32,31 @@ fn highest(log: &[u8], table: &[u32], mark: Mark, handle: Handle, key: &[u8]) ->
     seek(log, table, mark, end, &low[..a], handle)
 }
 
-fn located(seen: Seen) -> Located
+fn located(seen: Seen) -> Result<Part, Refusal>
     ensures { result ≡ located_seen seen }
 {
     match seen {
-        Seen::Hidden => Located::Refused(Refusal::Absent),
-        Seen::Gone => Located::Refused(Refusal::Absent),
-        Seen::Bad => Located::Refused(Refusal::BadStore),
-        Seen::Value(p) => Located::At(p),
+        Seen::Hidden => Err(Refusal::Absent),
+        Seen::Gone => Err(Refusal::Absent),
+        Seen::Bad => Err(Refusal::BadStore),
+        Seen::Value(p) => Ok(p),
     }
 }
 
-pub fn get(log: &[u8], used: Used, table: &[u32], handle: Handle, key: &[u8]) -> Located
+pub fn get(
+    log: &[u8],
+    used: Used,
+    table: &[u32],
+    handle: Handle,
+    key: &[u8],
+) -> Result<Part, Refusal>
     ensures { Gets log.now used.len table.now handle key.now result }
 {
     match admit(log, used, table, handle) {
-        Admitted::Refused(r) => Located::Refused(r),
-        Admitted::Fine(mark) => {
+        Err(r) => Err(r),
+        Ok(mark) => {
             if MAX_KEY < key.len() {
-                return Located::Refused(Refusal::KeyTooLong);
+                return Err(Refusal::KeyTooLong);
             }
             located(highest(log, table, mark, handle, key))
         }

@@ -14,10 +14,11 @@ use crate::handle::Handle;
 use crate::walk::step_from;
 use bitcask::engine::spot::first;
 use bitcask::engine::{Mark, Spot};
-use bitcask::{Bound, Stepped};
+use bitcask::{Bound, KeyValue};
 use keycode::code::{Code, version_code};
 use keycode::limits::KEY_BYTES;
-use keycode::{Order, compare};
+use keycode::{Refusal, compare};
+use std::cmp::Ordering;
 
 // The highest version that a key can have.
 const LAST_VERSION: u64 = 0xffff_ffff_ffff_ffff;
@@ -72,9 +73,9 @@ fn follows(key: &[u8], other: &[u8]) -> bool
     ensures { result ≡ admits_low Excluded (compare_bytes key.now other.now) }
 {
     match compare(key, other) {
-        Order::Less => false,
-        Order::Equal => false,
-        Order::Greater => true,
+        Ordering::Less => false,
+        Ordering::Equal => false,
+        Ordering::Greater => true,
     }
 }
 
@@ -116,7 +117,7 @@ pub(crate) fn step_past(
     high: &[u8],
     given: bool,
     last: &[u8],
-) -> Stepped
+) -> Result<KeyValue, Refusal>
     requires { (Held log.now table.now mark) × (last_fits given last.now ≡ true) }
     ensures { result
         ≡ step_rows handle log.now (past_rows lower low.now upper high.now given last.now (rows log.now table.now mark)) }
@@ -137,7 +138,7 @@ pub(crate) fn step_between(
     high: &[u8],
     given: bool,
     last: &[u8],
-) -> Stepped
+) -> Result<KeyValue, Refusal>
     requires { (Held log.now table.now mark) × (keys_fit lower low.now upper high.now given last.now ≡ true) }
     ensures { result
         ≡ step_rows handle log.now (scan_rows lower low.now upper high.now given last.now (rows log.now table.now mark)) }

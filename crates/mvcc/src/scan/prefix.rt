@@ -7,13 +7,13 @@ ghost use Rattle.mvcc.specs.walk.Walks.{step_rows};
 ghost use Rattle.mvcc.specs.scan.Bounds.{Uppers, prefix_fits, prefix_rows};
 ghost use Rattle.mvcc.specs.scan.Promises.{ScansPrefix};
 
-use crate::admission::{Admitted, admit};
+use crate::admission::admit;
 use crate::handle::Handle;
 use crate::scan::bounds::step_past;
 use crate::scan::checks::prefix_fits;
 use bitcask::engine::Mark;
 use bitcask::entry::write::copy_into;
-use bitcask::{Bound, Stepped, Used};
+use bitcask::{Bound, KeyValue, Used};
 use keycode::code::{Code, prefix_code};
 use keycode::limits::KEY_BYTES;
 use keycode::{End, Refusal, prefix_end};
@@ -61,7 +61,7 @@ fn step_begun(
     prefix: &[u8],
     given: bool,
     last: &[u8],
-) -> Stepped
+) -> Result<KeyValue, Refusal>
     requires { (Held log.now table.now mark) × (prefix_fits prefix.now given last.now ≡ true) }
     ensures { result ≡ step_rows handle log.now (prefix_rows prefix.now given last.now (rows log.now table.now mark)) }
 {
@@ -95,16 +95,16 @@ pub fn scan_prefix_step(
     prefix: &[u8],
     given: bool,
     last: &[u8],
-) -> Stepped
+) -> Result<KeyValue, Refusal>
     ensures { ScansPrefix log.now used.len table.now handle prefix.now given last.now result }
 {
     match admit(log, used, table, handle) {
-        Admitted::Refused(r) => Stepped::Refused(r),
-        Admitted::Fine(mark) => {
+        Err(r) => Err(r),
+        Ok(mark) => {
             if prefix_fits(prefix, given, last) {
                 step_begun(log, table, mark, handle, prefix, given, last)
             } else {
-                Stepped::Refused(Refusal::KeyTooLong)
+                Err(Refusal::KeyTooLong)
             }
         }
     }

@@ -3,9 +3,9 @@ ghost use Rattle.mvcc.specs.unversioned.Promises.{SetsPlain};
 
 use crate::append::one::append_one;
 use crate::append::size::sized;
-use bitcask::append::Check;
-use bitcask::engine::{Entered, enter};
-use bitcask::{Changed, Used};
+use bitcask::Used;
+use bitcask::engine::enter;
+use keycode::Refusal;
 use keycode::code::unversioned_code;
 
 pub fn set_unversioned(
@@ -14,14 +14,14 @@ pub fn set_unversioned(
     table: &mut [u32],
     key: &[u8],
     value: &[u8],
-) -> Changed
+) -> Result<Used, Refusal>
     ensures { SetsPlain log.old used.len table.old key.now value.now result log.new table.new }
 {
     match enter(log, used, table) {
-        Entered::Refused(r) => Changed::Refused(r),
-        Entered::In(mark) => match sized(key.len(), value.len()) {
-            Check::Refused(r) => Changed::Refused(r),
-            Check::Fine => {
+        Err(r) => Err(r),
+        Ok(mark) => match sized(key.len(), value.len()) {
+            Err(r) => Err(r),
+            Ok(()) => {
                 let code = unversioned_code(key);
                 let bytes = code.bytes;
                 let len = code.len;

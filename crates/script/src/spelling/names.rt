@@ -1,7 +1,8 @@
 // The words of a script that ask for something, each a number: its place in the list.
 use crate::spelling::spell::{find, minus, plus};
+use keycode::compare;
 use keycode::parts::clip;
-use keycode::{Order, compare};
+use std::cmp::Ordering;
 
 // The bounds of a scan, and the key given last.
 pub(crate) const FROM: usize = 0;
@@ -86,9 +87,9 @@ pub(crate) const COMPACT: usize = 36;
 
 pub(crate) fn is(a: &[u8], b: &[u8]) -> bool {
     match compare(a, b) {
-        Order::Less => false,
-        Order::Equal => true,
-        Order::Greater => false,
+        Ordering::Less => false,
+        Ordering::Equal => true,
+        Ordering::Greater => false,
     }
 }
 

@@ -1,9 +1,9 @@
 // The answers: the number, and what came with it. A refusal's line says whether everything that was lent stayed as it was.
-use bitcask::{Changed, Counted, Counts, Located, Stepped, Used};
-use keycode::Part;
+use bitcask::{Counts, KeyValue, Used};
 use keycode::limits::MAX_OPEN;
 use keycode::parts::clip;
-use mvcc::{Handle, Stated};
+use keycode::{Part, Refusal};
+use mvcc::{Handle, Versions};
 
 pub(crate) fn text(bytes: &[u8]) {
     io::write_all(1, bytes);
@@ -39,41 +39,55 @@ fn part(before: &[u8], log: &[u8], p: Part) {
     text(b"\"");
 }
 
-pub(crate) fn located(log: &[u8], answer: Located, loud: bool, used: Used) -> Changed {
+pub(crate) fn located(
+    log: &[u8],
+    answer: Result<Part, Refusal>,
+    loud: bool,
+    used: Used,
+) -> Result<Used, Refusal> {
     match answer {
-        Located::At(p) => {
+        Ok(p) => {
             if loud {
                 part(b": 0, value \"", log, p);
             }
-            Changed::Done(used)
+            Ok(used)
         }
-        Located::Refused(r) => Changed::Refused(r),
+        Err(r) => Err(r),
     }
 }
 
-pub(crate) fn stepped(log: &[u8], answer: Stepped, loud: bool, used: Used) -> Changed {
+pub(crate) fn stepped(
+    log: &[u8],
+    answer: Result<KeyValue, Refusal>,
+    loud: bool,
+    used: Used,
+) -> Result<Used, Refusal> {
     match answer {
-        Stepped::Next { key: k, value: v } => {
+        Ok(KeyValue { key: k, value: v }) => {
             if loud {
                 part(b": 0, key \"", log, k);
                 part(b", value \"", log, v);
             }
-            Changed::Done(used)
+            Ok(used)
         }
-        Stepped::Refused(r) => Changed::Refused(r),
+        Err(r) => Err(r),
     }
 }
 
-pub(crate) fn stated(answer: Stated, loud: bool, used: Used) -> Changed {
+pub(crate) fn stated(
+    answer: Result<Versions, Refusal>,
+    loud: bool,
+    used: Used,
+) -> Result<Used, Refusal> {
     match answer {
-        Stated::Done(v) => {
+        Ok(v) => {
             if loud {
                 number(b": 0, last version ", v.last);
                 number(b", open ", v.open as u64);
             }
-            Changed::Done(used)
+            Ok(used)
         }
-        Stated::Refused(r) => Changed::Refused(r),
+        Err(r) => Err(r),
     }
 }
 
@@ -84,15 +98,19 @@ fn counts(c: Counts) {
     number(b", live ", c.live as u64);
 }
 
-pub(crate) fn counted(answer: Counted, loud: bool, used: Used) -> Changed {
+pub(crate) fn counted(
+    answer: Result<Counts, Refusal>,
+    loud: bool,
+    used: Used,
+) -> Result<Used, Refusal> {
     match answer {
-        Counted::Done(c) => {
+        Ok(c) => {
             if loud {
                 counts(c);
             }
-            Changed::Done(used)
+            Ok(used)
         }
-        Counted::Refused(r) => Changed::Refused(r),
+        Err(r) => Err(r),
     }
 }
 

@@ -8,8 +8,8 @@ use Rattle.bitcask.proofs.append.fresh.Goals as goal
 pub find-requires : goal.find-requires
 find-requires c = c.requires
 
-pub returns-in-At : goal.returns-in-At
-returns-in-At c = ap wants (sym c.in-At.is) ∙ fresh_is c.args.log.now c.args.key.now (slots_of c.args.count c.args.table.now) _ c.find.ensures
+pub returns-in-Ok : goal.returns-in-Ok
+returns-in-Ok c = ap wants (sym c.in-Ok.is) ∙ fresh_is c.args.log.now c.args.key.now (slots_of c.args.count c.args.table.now) _ c.find.ensures
 
-pub returns-in-Before : goal.returns-in-Before
-returns-in-Before c = ap wants (sym c.in-Before.is) ∙ fresh_is c.args.log.now c.args.key.now (slots_of c.args.count c.args.table.now) _ c.find.ensures
+pub returns-in-Err : goal.returns-in-Err
+returns-in-Err c = ap wants (sym c.in-Err.is) ∙ fresh_is c.args.log.now c.args.key.now (slots_of c.args.count c.args.table.now) _ c.find.ensures

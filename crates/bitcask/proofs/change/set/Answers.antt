@@ -26,26 +26,26 @@ append_set-mark-requires c =
     let a = c.args in
     let w = change_room a.log.now a.used.len a.table.now (set_entry a.key.now a.value.now) (sym c.fits-good.ensures ∙ c.if-not-good.false) _
     (judged_by_lem a.log.now a.used.len a.table.now (set_entry a.key.now a.value.now) _ _ _ _ c.count-n.ensures c.room_after-room.ensures
-    (fresh_by a.log.now a.table.now a.key.now _ _ c.count-n.ensures c.fresh.ensures) c.judged.ensures) c.in-Fine.is in
+    (fresh_by a.log.now a.table.now a.key.now _ _ c.count-n.ensures c.fresh.ensures) c.judged.ensures) c.in-Ok.is in
     (omega (arith, w.0), w.1, omega (arith, count-within a.table.now, c.count-n.ensures))
 
-pub returns-in-Refused : goal.returns-in-Refused
-returns-in-Refused c =
+pub returns-in-Err : goal.returns-in-Err
+returns-in-Err c =
     let a = c.args in
     change_refused a.log.now a.used.len a.table.now (set_entry a.key.now a.value.now) (sym c.fits-good.ensures ∙ c.if-not-good.false) _
     (judged_by_lem a.log.now a.used.len a.table.now (set_entry a.key.now a.value.now) _ _ _ _ c.count-n.ensures c.room_after-room.ensures
-    (fresh_by a.log.now a.table.now a.key.now _ _ c.count-n.ensures c.fresh.ensures) c.judged.ensures) _ c.in-Refused.is
+    (fresh_by a.log.now a.table.now a.key.now _ _ c.count-n.ensures c.fresh.ensures) c.judged.ensures) _ c.in-Err.is
 
-pub shape_of-log-in-Fine : goal.shape_of-log-in-Fine
-shape_of-log-in-Fine c = c.append_set-mark.auto.log
+pub shape_of-log-in-Ok : goal.shape_of-log-in-Ok
+shape_of-log-in-Ok c = c.append_set-mark.auto.log
 
-pub shape_of-table-in-Fine : goal.shape_of-table-in-Fine
-shape_of-table-in-Fine c = c.append_set-mark.auto.table
+pub shape_of-table-in-Ok : goal.shape_of-table-in-Ok
+shape_of-table-in-Ok c = c.append_set-mark.auto.table
 
-pub returns-in-Fine : goal.returns-in-Fine
-returns-in-Fine c =
+pub returns-in-Ok : goal.returns-in-Ok
+returns-in-Ok c =
     let a = c.args in
     change_done a.log.now a.used.len a.table.now (set_entry a.key.now a.value.now) (sym c.fits-good.ensures ∙ c.if-not-good.false) _
     (judged_by_lem a.log.now a.used.len a.table.now (set_entry a.key.now a.value.now) _ _ _ _ c.count-n.ensures c.room_after-room.ensures
-    (fresh_by a.log.now a.table.now a.key.now _ _ c.count-n.ensures c.fresh.ensures) c.judged.ensures) c.in-Fine.is
+    (fresh_by a.log.now a.table.now a.key.now _ _ c.count-n.ensures c.fresh.ensures) c.judged.ensures) c.in-Ok.is
     _ _ _ c.count-n.ensures (ap (set_entry a.key.now) (append-nil a.value.now)) c.append_set-mark.ensures

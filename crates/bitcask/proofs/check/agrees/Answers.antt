@@ -18,11 +18,11 @@ walk-requires c =
     let a = c.args in let s = fit-sound (length a.log.now) a.used.len (length a.table.now) (sym c.fits.ensures ∙ c.if-fits.true) in
     (omega arith, omega (arith, count-within a.table.now, c.count-n.ensures))
 
-pub returns-in-Broken : goal.returns-in-Broken
-returns-in-Broken c = let a = c.args in tell_broken a.log.now a.used.len a.table.now c.count-n.ensures c.walk.ensures c.in-Broken.is
+pub returns-in-None : goal.returns-in-None
+returns-in-None c = let a = c.args in tell_broken a.log.now a.used.len a.table.now c.count-n.ensures c.walk.ensures c.in-None.is
 
-pub returns-in-Met : goal.returns-in-Met
-returns-in-Met c = let a = c.args in tell_count a.log.now a.used.len a.table.now c.count-n.ensures c.walk.ensures c.fits.ensures c.if-fits.true c.zeros.ensures c.if-zeros.true c.rising.ensures c.if-rising.true _ c.in-Met.is
+pub returns-in-Some : goal.returns-in-Some
+returns-in-Some c = let a = c.args in tell_count a.log.now a.used.len a.table.now c.count-n.ensures c.walk.ensures c.fits.ensures c.if-fits.true c.zeros.ensures c.if-zeros.true c.rising.ensures c.if-rising.true _ c.in-Some.is
 
 pub returns-else-rising : goal.returns-else-rising
 returns-else-rising c = let a = c.args in tell_unsorted a.log.now a.used.len a.table.now c.count-n.ensures c.rising.ensures c.if-rising.false

@@ -5,16 +5,16 @@ use native.Mathlib.Omega.{arith}
 use Rattle.bitcask.proofs.check.judge.Goals as goal
 
 pub slot_at-requires : goal.slot_at-requires
-slot_at-requires c = let a = c.args in omega (arith, found_at a.log.now _ a.table.now a.count _ c.find.ensures _ c.in-At.is)
+slot_at-requires c = let a = c.args in omega (arith, found_at a.log.now _ a.table.now a.count _ c.find.ensures _ c.in-Ok.is)
 
 pub returns-then-e : goal.returns-then-e
-returns-then-e c = let a = c.args in judge-gone a.log.now a.table.now a.count a.e _ c.key_of-key.ensures c.find.ensures _ c.in-Before.is c.if-e.true
+returns-then-e c = let a = c.args in judge-gone a.log.now a.table.now a.count a.e _ c.key_of-key.ensures c.find.ensures _ c.in-Err.is c.if-e.true
 
-pub returns-in-At : goal.returns-in-At
-returns-in-At c = let a = c.args in judge-at a.log.now a.table.now a.count a.e _ c.key_of-key.ensures c.find.ensures _ c.in-At.is c.slot_at.ensures c.against.ensures
+pub returns-in-Ok : goal.returns-in-Ok
+returns-in-Ok c = let a = c.args in judge-at a.log.now a.table.now a.count a.e _ c.key_of-key.ensures c.find.ensures _ c.in-Ok.is c.slot_at.ensures c.against.ensures
 
 pub returns-then-later : goal.returns-then-later
-returns-then-later c = let a = c.args in judge-later a.log.now a.table.now a.count a.e _ c.key_of-key.ensures c.find.ensures _ c.in-Before.is c.if-e.false (later-from a.log.now _ a.used c.past.ensures c.later.ensures) c.if-later.true
+returns-then-later c = let a = c.args in judge-later a.log.now a.table.now a.count a.e _ c.key_of-key.ensures c.find.ensures _ c.in-Err.is c.if-e.false (later-from a.log.now _ a.used c.past.ensures c.later.ensures) c.if-later.true
 
 pub returns-else-later : goal.returns-else-later
-returns-else-later c = let a = c.args in judge_wrong a.log.now a.table.now a.count a.e _ c.key_of-key.ensures c.find.ensures _ c.in-Before.is c.if-e.false (later-from a.log.now _ a.used c.past.ensures c.later.ensures) c.if-later.false
+returns-else-later c = let a = c.args in judge_wrong a.log.now a.table.now a.count a.e _ c.key_of-key.ensures c.find.ensures _ c.in-Err.is c.if-e.false (later-from a.log.now _ a.used c.past.ensures c.later.ensures) c.if-later.false

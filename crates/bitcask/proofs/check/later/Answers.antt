@@ -8,14 +8,14 @@ loop-e-init c = looking_start _ _ _ _ c.requires.0
 pub entry_from-requires : goal.entry_from-requires
 entry_from-requires c = let w = c.loop-e.invariant.within in search rules
 
-pub returns-in-Over : goal.returns-in-Over
-returns-in-Over c = looking-over c.loop-e.invariant c.entry_from.ensures c.in-Over.is
+pub returns-in-None : goal.returns-in-None
+returns-in-None c = looking-over c.loop-e.invariant c.entry_from.ensures c.in-None.is
 
 pub returns-then-same_key : goal.returns-then-same_key
-returns-then-same_key c = looking-here c.loop-e.invariant c.entry_from.ensures _ c.in-Entry.is c.same_key.ensures c.if-same_key.true
+returns-then-same_key c = looking-here c.loop-e.invariant c.entry_from.ensures _ c.in-Some.is c.same_key.ensures c.if-same_key.true
 
 pub loop-e-smaller : goal.loop-e-smaller
-loop-e-smaller c = looking_less c.loop-e.invariant c.entry_from.ensures _ c.in-Entry.is _ c.past-at.ensures
+loop-e-smaller c = looking_less c.loop-e.invariant c.entry_from.ensures _ c.in-Some.is _ c.past-at.ensures
 
 pub loop-e-preserved : goal.loop-e-preserved
-loop-e-preserved c = looking-next c.loop-e.invariant c.entry_from.ensures _ c.in-Entry.is _ c.past-at.ensures c.same_key.ensures c.if-same_key.false
+loop-e-preserved c = looking-next c.loop-e.invariant c.entry_from.ensures _ c.in-Some.is _ c.past-at.ensures c.same_key.ensures c.if-same_key.false

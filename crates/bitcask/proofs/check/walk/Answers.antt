@@ -11,28 +11,28 @@ pub entry_from-requires : goal.entry_from-requires
 entry_from-requires c = let w = c.loop-e.invariant.within in search rules
 
 pub returns-then-at-used : goal.returns-then-at-used
-returns-then-at-used c = walking_end c.loop-e.invariant c.entry_from.ensures c.in-Over.is c.if-at-used.true
+returns-then-at-used c = walking_end c.loop-e.invariant c.entry_from.ensures c.in-None.is c.if-at-used.true
 
-pub returns-in-Over : goal.returns-in-Over
-returns-in-Over c = walking_cut c.loop-e.invariant c.entry_from.ensures c.in-Over.is c.if-at-used.false
+pub returns-in-None : goal.returns-in-None
+returns-in-None c = walking_cut c.loop-e.invariant c.entry_from.ensures c.in-None.is c.if-at-used.false
 
 pub judge-requires : goal.judge-requires
-judge-requires c = let a = c.args in ((seen_stands a.log.now a.used c.loop-e.at c.entry_from.ensures _ c.in-Entry.is).near, c.requires.0, c.requires.1)
+judge-requires c = let a = c.args in ((seen_stands a.log.now a.used c.loop-e.at c.entry_from.ensures _ c.in-Some.is).near, c.requires.0, c.requires.1)
 
 pub returns-in-Wrong : goal.returns-in-Wrong
-returns-in-Wrong c = walking_wrong c.loop-e.invariant c.entry_from.ensures _ c.in-Entry.is c.judge.ensures c.in-Wrong.is
+returns-in-Wrong c = walking_wrong c.loop-e.invariant c.entry_from.ensures _ c.in-Some.is c.judge.ensures c.in-Wrong.is
 
 pub loop-e-smaller-in-Early : goal.loop-e-smaller-in-Early
-loop-e-smaller-in-Early c = walking_less c.loop-e.invariant c.entry_from.ensures _ c.in-Entry.is c.judge.ensures _ c.past-at.ensures
+loop-e-smaller-in-Early c = walking_less c.loop-e.invariant c.entry_from.ensures _ c.in-Some.is c.judge.ensures _ c.past-at.ensures
 
 pub loop-e-preserved-in-Early : goal.loop-e-preserved-in-Early
-loop-e-preserved-in-Early c = walking_early c.loop-e.invariant c.entry_from.ensures _ c.in-Entry.is c.judge.ensures _ c.past-at.ensures c.in-Early.is
+loop-e-preserved-in-Early c = walking_early c.loop-e.invariant c.entry_from.ensures _ c.in-Some.is c.judge.ensures _ c.past-at.ensures c.in-Early.is
 
 pub overflow_add-met : goal.overflow_add-met
 overflow_add-met c = let w = c.loop-e.invariant in omega (arith, w.few, w.within)
 
 pub loop-e-smaller : goal.loop-e-smaller
-loop-e-smaller c = walking_less c.loop-e.invariant c.entry_from.ensures _ c.in-Entry.is c.judge.ensures _ c.past-at-in-Exact.ensures
+loop-e-smaller c = walking_less c.loop-e.invariant c.entry_from.ensures _ c.in-Some.is c.judge.ensures _ c.past-at-in-Exact.ensures
 
 pub loop-e-preserved : goal.loop-e-preserved
-loop-e-preserved c = walking_exact c.loop-e.invariant c.entry_from.ensures _ c.in-Entry.is c.judge.ensures _ c.past-at-in-Exact.ensures c.in-Exact.is
+loop-e-preserved c = walking_exact c.loop-e.invariant c.entry_from.ensures _ c.in-Some.is c.judge.ensures _ c.past-at-in-Exact.ensures c.in-Exact.is

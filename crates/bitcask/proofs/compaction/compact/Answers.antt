@@ -14,10 +14,10 @@ pub live_upto-requires : goal.live_upto-requires
 live_upto-requires c = rw c.count-n.ensures (count-within c.args.table.now)
 
 pub move_all-len-requires : goal.move_all-len-requires
-move_all-len-requires c = let a = c.args in (rw c.count-n.ensures (count-within a.table.now), compact_room a.log.now a.used.len a.table.now a.target.now (sym c.fits.ensures ∙ c.if-not-fits.false) c.if-room-gt-MAX_LOG.false c.count-n.ensures c.live_upto.ensures _ c.in-Total.is, c.if-room-gt-MAX_LOG.false)
+move_all-len-requires c = let a = c.args in (rw c.count-n.ensures (count-within a.table.now), compact_room a.log.now a.used.len a.table.now a.target.now (sym c.fits.ensures ∙ c.if-not-fits.false) c.if-room-gt-MAX_LOG.false c.count-n.ensures c.live_upto.ensures _ c.in-Some.is, c.if-room-gt-MAX_LOG.false)
 
-pub returns-in-Over : goal.returns-in-Over
-returns-in-Over c = let a = c.args in compact_full a.log.now a.used.len a.table.now a.target.now (sym c.fits.ensures ∙ c.if-not-fits.false) c.if-room-gt-MAX_LOG.false c.count-n.ensures c.live_upto.ensures c.in-Over.is
+pub returns-in-None : goal.returns-in-None
+returns-in-None c = let a = c.args in compact_full a.log.now a.used.len a.table.now a.target.now (sym c.fits.ensures ∙ c.if-not-fits.false) c.if-room-gt-MAX_LOG.false c.count-n.ensures c.live_upto.ensures c.in-None.is
 
-pub returns-in-Total : goal.returns-in-Total
-returns-in-Total c = let a = c.args in compact_done a.log.now a.used.len a.table.now a.target.now (sym c.fits.ensures ∙ c.if-not-fits.false) c.if-room-gt-MAX_LOG.false c.count-n.ensures c.live_upto.ensures _ c.in-Total.is (rw c.count-n.ensures (count-within a.table.now)) c.move_all-len.ensures
+pub returns-in-Some : goal.returns-in-Some
+returns-in-Some c = let a = c.args in compact_done a.log.now a.used.len a.table.now a.target.now (sym c.fits.ensures ∙ c.if-not-fits.false) c.if-room-gt-MAX_LOG.false c.count-n.ensures c.live_upto.ensures _ c.in-Some.is (rw c.count-n.ensures (count-within a.table.now)) c.move_all-len.ensures

@@ -5,8 +5,8 @@ use Rattle.bitcask.proofs.rank.below.Goals as goal
 pub find-requires : goal.find-requires
 find-requires c = c.requires
 
-pub returns-in-At : goal.returns-in-At
-returns-in-At c = below_at c.args.log.now c.args.key.now c.args.table.now c.args.count _ c.find.ensures _ c.in-At.is
+pub returns-in-Ok : goal.returns-in-Ok
+returns-in-Ok c = below_at c.args.log.now c.args.key.now c.args.table.now c.args.count _ c.find.ensures _ c.in-Ok.is
 
-pub returns-in-Before : goal.returns-in-Before
-returns-in-Before c = below-before c.args.log.now c.args.key.now c.args.table.now c.args.count _ c.find.ensures _ c.in-Before.is
+pub returns-in-Err : goal.returns-in-Err
+returns-in-Err c = below-before c.args.log.now c.args.key.now c.args.table.now c.args.count _ c.find.ensures _ c.in-Err.is

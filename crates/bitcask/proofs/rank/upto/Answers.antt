@@ -7,10 +7,10 @@ pub find-requires : goal.find-requires
 find-requires c = c.requires
 
 pub overflow_add-result : goal.overflow_add-result
-overflow_add-result c = omega (arith, found_at c.args.log.now c.args.key.now c.args.table.now c.args.count _ c.find.ensures c.in-At.i c.in-At.is)
+overflow_add-result c = omega (arith, found_at c.args.log.now c.args.key.now c.args.table.now c.args.count _ c.find.ensures c.in-Ok.i c.in-Ok.is)
 
-pub returns-in-At : goal.returns-in-At
-returns-in-At c = upto-at c.args.log.now c.args.key.now c.args.table.now c.args.count _ c.find.ensures _ c.in-At.is
+pub returns-in-Ok : goal.returns-in-Ok
+returns-in-Ok c = upto-at c.args.log.now c.args.key.now c.args.table.now c.args.count _ c.find.ensures _ c.in-Ok.is
 
-pub returns-in-Before : goal.returns-in-Before
-returns-in-Before c = upto_before c.args.log.now c.args.key.now c.args.table.now c.args.count _ c.find.ensures _ c.in-Before.is
+pub returns-in-Err : goal.returns-in-Err
+returns-in-Err c = upto_before c.args.log.now c.args.key.now c.args.table.now c.args.count _ c.find.ensures _ c.in-Err.is

@@ -13,10 +13,10 @@ pub find-requires : goal.find-requires
 find-requires c = omega (arith, count-within c.args.table.now, c.count-n.ensures)
 
 pub slot_at-requires : goal.slot_at-requires
-slot_at-requires c = let a = c.args in omega (arith, count-within a.table.now, c.count-n.ensures, found_at a.log.now a.key.now a.table.now c.count-n.result _ c.find.ensures c.in-At.i c.in-At.is)
+slot_at-requires c = let a = c.args in omega (arith, count-within a.table.now, c.count-n.ensures, found_at a.log.now a.key.now a.table.now c.count-n.result _ c.find.ensures c.in-Ok.i c.in-Ok.is)
 
-pub returns-in-At : goal.returns-in-At
-returns-in-At c = let a = c.args in get_at a.log.now a.used.len a.table.now a.key.now (sym c.fits-good.ensures ∙ c.if-not-good.false) _ c.count-n.ensures _ c.find.ensures _ _ _ c.in-At.is c.slot_at.ensures c.value_part.ensures
+pub returns-in-Ok : goal.returns-in-Ok
+returns-in-Ok c = let a = c.args in get_at a.log.now a.used.len a.table.now a.key.now (sym c.fits-good.ensures ∙ c.if-not-good.false) _ c.count-n.ensures _ c.find.ensures _ _ _ c.in-Ok.is c.slot_at.ensures c.value_part.ensures
 
-pub returns-in-Before : goal.returns-in-Before
-returns-in-Before c = let a = c.args in get_absent a.log.now a.used.len a.table.now a.key.now (sym c.fits-good.ensures ∙ c.if-not-good.false) _ c.count-n.ensures _ c.find.ensures _ c.in-Before.is
+pub returns-in-Err : goal.returns-in-Err
+returns-in-Err c = let a = c.args in get_absent a.log.now a.used.len a.table.now a.key.now (sym c.fits-good.ensures ∙ c.if-not-good.false) _ c.count-n.ensures _ c.find.ensures _ c.in-Err.is

@@ -12,13 +12,13 @@ pub live_upto-requires : goal.live_upto-requires
 live_upto-requires c = rw c.count-keys.ensures (count-within c.args.table.now)
 
 pub overflow_mul-result : goal.overflow_mul-result
-overflow_mul-result c = let a = c.args in let h = counting-room a.log.now a.used.len a.table.now (sym c.fits.ensures ∙ c.if-not-fits.false) c.count-keys.ensures c.live_upto.ensures _ c.in-Total.is in omega arith
+overflow_mul-result c = let a = c.args in let h = counting-room a.log.now a.used.len a.table.now (sym c.fits.ensures ∙ c.if-not-fits.false) c.count-keys.ensures c.live_upto.ensures _ c.in-Some.is in omega arith
 
 pub overflow_sub-result : goal.overflow_sub-result
-overflow_sub-result c = let a = c.args in counting-room a.log.now a.used.len a.table.now (sym c.fits.ensures ∙ c.if-not-fits.false) c.count-keys.ensures c.live_upto.ensures _ c.in-Total.is
+overflow_sub-result c = let a = c.args in counting-room a.log.now a.used.len a.table.now (sym c.fits.ensures ∙ c.if-not-fits.false) c.count-keys.ensures c.live_upto.ensures _ c.in-Some.is
 
-pub returns-in-Over : goal.returns-in-Over
-returns-in-Over c = let a = c.args in counting-over a.log.now a.used.len a.table.now (sym c.fits.ensures ∙ c.if-not-fits.false) c.count-keys.ensures c.live_upto.ensures _ c.in-Over.is
+pub returns-in-None : goal.returns-in-None
+returns-in-None c = let a = c.args in counting-over a.log.now a.used.len a.table.now (sym c.fits.ensures ∙ c.if-not-fits.false) c.count-keys.ensures c.live_upto.ensures _ c.in-None.is
 
-pub returns-in-Total : goal.returns-in-Total
-returns-in-Total c = let a = c.args in counting_done a.log.now a.used.len a.table.now (sym c.fits.ensures ∙ c.if-not-fits.false) c.count-keys.ensures c.live_upto.ensures _ c.in-Total.is
+pub returns-in-Some : goal.returns-in-Some
+returns-in-Some c = let a = c.args in counting_done a.log.now a.used.len a.table.now (sym c.fits.ensures ∙ c.if-not-fits.false) c.count-keys.ensures c.live_upto.ensures _ c.in-Some.is

@@ -7,8 +7,8 @@ use Rattle.host.proofs.answers.told.Goals as goal
 pub overflow_mul-result : goal.overflow_mul-result
 overflow_mul-result c = omega (arith, c.wide.ensures.1)
 
-pub returns-in-Done : goal.returns-in-Done
-returns-in-Done c = told_done _ c.in-Done.is
+pub returns-in-Ok : goal.returns-in-Ok
+returns-in-Ok c = told_done _ c.in-Ok.is
 
-pub returns-in-Refused : goal.returns-in-Refused
-returns-in-Refused c = told_refused _ c.in-Refused.is (c.wide.ensures.0 ∙ c.number_of.ensures)
+pub returns-in-Err : goal.returns-in-Err
+returns-in-Err c = told_refused _ c.in-Err.is (c.wide.ensures.0 ∙ c.number_of.ensures)

@@ -2,5 +2,5 @@
 use Rattle.host.proofs.OpenLaws.{room_new}
 use Rattle.host.proofs.opening.has_room.Goals as goal
 
-pub returns-in-Before : goal.returns-in-Before
-returns-in-Before c = room_new c.args.slots c.args.count _ c.in-Before.is
+pub returns-in-Err : goal.returns-in-Err
+returns-in-Err c = room_new c.args.slots c.args.count _ c.in-Err.is

@@ -2,8 +2,8 @@
 use Rattle.host.proofs.OpenLaws.{used-is}
 use Rattle.host.proofs.opening.used_length.Goals as goal
 
-pub returns-in-Done : goal.returns-in-Done
-returns-in-Done c = used-is _ c.in-Done.is
+pub returns-in-Ok : goal.returns-in-Ok
+returns-in-Ok c = used-is _ c.in-Ok.is
 
-pub returns-in-Refused : goal.returns-in-Refused
-returns-in-Refused c = used-is _ c.in-Refused.is
+pub returns-in-Err : goal.returns-in-Err
+returns-in-Err c = used-is _ c.in-Err.is

@@ -7,16 +7,16 @@ use native.Mathlib.Omega.{arith}
 use Rattle.host.proofs.place.enter.Goals as goal
 
 pub replace-requires : goal.replace-requires
-replace-requires c = let a = c.args in (among-at a.count a.found _ c.requires.0 c.in-At.is, c.requires.1)
+replace-requires c = let a = c.args in (among-at a.count a.found _ c.requires.0 c.in-Ok.is, c.requires.1)
 
 pub returns-then-table-count : goal.returns-then-table-count
-returns-then-table-count c = let a = c.args in enter_full (words_in a.table.now) a.count a.found _ c.requires.1 c.requires.0 a.s c.in-Before.is (omega (arith, slot-count a.table.now, c.if-table-count.true))
+returns-then-table-count c = let a = c.args in enter_full (words_in a.table.now) a.count a.found _ c.requires.1 c.requires.0 a.s c.in-Err.is (omega (arith, slot-count a.table.now, c.if-table-count.true))
 
 pub insert-requires : goal.insert-requires
-insert-requires c = let a = c.args in (among-before a.count a.found _ c.requires.0 c.in-Before.is, omega (arith, words-length a.table.now))
+insert-requires c = let a = c.args in (among-before a.count a.found _ c.requires.0 c.in-Err.is, omega (arith, words-length a.table.now))
 
-pub returns-in-At : goal.returns-in-At
-returns-in-At c = let a = c.args in enter_at (words_in a.table.now) a.count a.found _ c.requires.1 c.requires.0 a.s c.in-At.is c.replace.ensures
+pub returns-in-Ok : goal.returns-in-Ok
+returns-in-Ok c = let a = c.args in enter_at (words_in a.table.now) a.count a.found _ c.requires.1 c.requires.0 a.s c.in-Ok.is c.replace.ensures
 
 pub returns-else-table-count : goal.returns-else-table-count
-returns-else-table-count c = let a = c.args in enter_new (words_in a.table.now) a.count a.found _ c.requires.1 c.requires.0 a.s c.in-Before.is (omega (arith, slot-count a.table.now, c.if-table-count.false)) c.insert.ensures
+returns-else-table-count c = let a = c.args in enter_new (words_in a.table.now) a.count a.found _ c.requires.1 c.requires.0 a.s c.in-Err.is (omega (arith, slot-count a.table.now, c.if-table-count.false)) c.insert.ensures

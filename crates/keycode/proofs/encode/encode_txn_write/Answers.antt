@@ -11,23 +11,23 @@ use native.Mathlib.Omega.{arith}
 use Rattle.keycode.proofs.encode.encode_txn_write.Goals as goal
 
 pub bounds-out-0 : goal.bounds-out-0
-bounds-out-0 c = let a = c.args in omega (arith, encode-room a.key.now (encode (txn_write a.version a.key.now)) a.out.now _ (write_length a.version a.key.now) _ c.measured.ensures _ c.in-Done.is)
+bounds-out-0 c = let a = c.args in omega (arith, encode-room a.key.now (encode (txn_write a.version a.key.now)) a.out.now _ (write_length a.version a.key.now) _ c.measured.ensures _ c.in-Ok.is)
 
 pub put_number-requires : goal.put_number-requires
-put_number-requires c = let a = c.args in (c.ranges.version.fits, simp length-set (omega (arith, encode-room a.key.now (encode (txn_write a.version a.key.now)) a.out.now _ (write_length a.version a.key.now) _ c.measured.ensures _ c.in-Done.is)))
+put_number-requires c = let a = c.args in (c.ranges.version.fits, simp length-set (omega (arith, encode-room a.key.now (encode (txn_write a.version a.key.now)) a.out.now _ (write_length a.version a.key.now) _ c.measured.ensures _ c.in-Ok.is)))
 
 pub escape_into-requires : goal.escape_into-requires
-escape_into-requires c = let a = c.args in omega (arith, escape-length a.key.now, c.put_number.auto.out, length-set a.out.now 0 3, encode-room a.key.now (encode (txn_write a.version a.key.now)) a.out.now _ (write_length a.version a.key.now) _ c.measured.ensures _ c.in-Done.is)
+escape_into-requires c = let a = c.args in omega (arith, escape-length a.key.now, c.put_number.auto.out, length-set a.out.now 0 3, encode-room a.key.now (encode (txn_write a.version a.key.now)) a.out.now _ (write_length a.version a.key.now) _ c.measured.ensures _ c.in-Ok.is)
 
 pub shape_of-out : goal.shape_of-out
 shape_of-out c = c.escape_into.auto.out ∙ c.put_number.auto.out ∙ length-set c.args.out.now 0 3
 
-pub returns-in-Done : goal.returns-in-Done
-returns-in-Done c =
+pub returns-in-Ok : goal.returns-in-Ok
+returns-in-Ok c =
     let a = c.args in let s = a.key.now in let v = a.version in let d = a.out.now in
-    let r = encode-room s (encode (txn_write v s)) d _ (write_length v s) _ c.measured.ensures _ c.in-Done.is in
-    encode_done s (encode (txn_write v s)) d _ (write_length v s) _ c.measured.ensures _ c.in-Done.is _
+    let r = encode-room s (encode (txn_write v s)) d _ (write_length v s) _ c.measured.ensures _ c.in-Ok.is in
+    encode_done s (encode (txn_write v s)) d _ (write_length v s) _ c.measured.ensures _ c.in-Ok.is _
     (two_put 3 (be 8 v) (escape s) d _ _ 9 (omega (arith, length-be 8 v, escape-length s)) (omega (arith, length-be 8 v)) c.put_number.ensures c.escape_into.ensures.1)
 
-pub returns-in-Refused : goal.returns-in-Refused
-returns-in-Refused c = let a = c.args in encode_refused a.key.now (encode (txn_write a.version a.key.now)) a.out.now _ (write_length a.version a.key.now) _ c.measured.ensures _ c.in-Refused.is
+pub returns-in-Err : goal.returns-in-Err
+returns-in-Err c = let a = c.args in encode_refused a.key.now (encode (txn_write a.version a.key.now)) a.out.now _ (write_length a.version a.key.now) _ c.measured.ensures _ c.in-Err.is

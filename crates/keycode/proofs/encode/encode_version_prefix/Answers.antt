@@ -8,20 +8,20 @@ use native.Mathlib.Omega.{arith}
 use Rattle.keycode.proofs.encode.encode_version_prefix.Goals as goal
 
 pub bounds-out-0 : goal.bounds-out-0
-bounds-out-0 c = let a = c.args in omega (arith, encode-room a.prefix.now (searched a.prefix.now) a.out.now _ (searched-length a.prefix.now) _ c.measured.ensures _ c.in-Done.is)
+bounds-out-0 c = let a = c.args in omega (arith, encode-room a.prefix.now (searched a.prefix.now) a.out.now _ (searched-length a.prefix.now) _ c.measured.ensures _ c.in-Ok.is)
 
 pub escape_body_into-requires : goal.escape_body_into-requires
-escape_body_into-requires c = let a = c.args in simp length-set (omega (arith, encode-room a.prefix.now (searched a.prefix.now) a.out.now _ (searched-length a.prefix.now) _ c.measured.ensures _ c.in-Done.is))
+escape_body_into-requires c = let a = c.args in simp length-set (omega (arith, encode-room a.prefix.now (searched a.prefix.now) a.out.now _ (searched-length a.prefix.now) _ c.measured.ensures _ c.in-Ok.is))
 
 pub shape_of-out : goal.shape_of-out
 shape_of-out c = c.escape_body_into.auto.out ∙ length-set c.args.out.now 0 4
 
-pub returns-in-Done : goal.returns-in-Done
-returns-in-Done c =
+pub returns-in-Ok : goal.returns-in-Ok
+returns-in-Ok c =
     let a = c.args in let s = a.prefix.now in let d = a.out.now in
-    let r = encode-room s (searched s) d _ (searched-length s) _ c.measured.ensures _ c.in-Done.is in
-    encode_done s (searched s) d _ (searched-length s) _ c.measured.ensures _ c.in-Done.is _
+    let r = encode-room s (searched s) d _ (searched-length s) _ c.measured.ensures _ c.in-Ok.is in
+    encode_done s (searched s) d _ (searched-length s) _ c.measured.ensures _ c.in-Ok.is _
     (one_put 4 (escape_body s) d _ (omega arith) c.escape_body_into.ensures.1)
 
-pub returns-in-Refused : goal.returns-in-Refused
-returns-in-Refused c = let a = c.args in encode_refused a.prefix.now (searched a.prefix.now) a.out.now _ (searched-length a.prefix.now) _ c.measured.ensures _ c.in-Refused.is
+pub returns-in-Err : goal.returns-in-Err
+returns-in-Err c = let a = c.args in encode_refused a.prefix.now (searched a.prefix.now) a.out.now _ (searched-length a.prefix.now) _ c.measured.ensures _ c.in-Err.is

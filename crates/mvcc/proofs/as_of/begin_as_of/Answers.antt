@@ -4,22 +4,22 @@ use Rattle.mvcc.proofs.as_of.PastLaws.{as_of_sizes, as_of_bad, as_of_late, as_of
 use Rattle.mvcc.proofs.as_of.begin_as_of.Goals as goal
 
 pub next_version-requires : goal.next_version-requires
-next_version-requires c = let a = c.args in in_held a.log.now a.used a.table.now _ c.enter.ensures _ c.in-In.is
+next_version-requires c = let a = c.args in in_held a.log.now a.used a.table.now _ c.enter.ensures _ c.in-Ok.is
 
 pub returns-then-next-version : goal.returns-then-next-version
-returns-then-next-version c = let a = c.args in as_of_late a.log.now a.used a.table.now a.version c.enter.ensures _ c.in-In.is c.next_version.ensures _ c.in-Read.is c.if-next-version.true c.refused-then-next-version.ensures
+returns-then-next-version c = let a = c.args in as_of_late a.log.now a.used a.table.now a.version c.enter.ensures _ c.in-Ok.is c.next_version.ensures _ c.in-Some.is c.if-next-version.true c.refused-then-next-version.ensures
 
 pub stored-read-requires : goal.stored-read-requires
-stored-read-requires c = let a = c.args in in_held a.log.now a.used a.table.now _ c.enter.ensures _ c.in-In.is
+stored-read-requires c = let a = c.args in in_held a.log.now a.used a.table.now _ c.enter.ensures _ c.in-Ok.is
 
-pub returns-in-Refused : goal.returns-in-Refused
-returns-in-Refused c = let a = c.args in as_of_sizes a.log.now a.used a.table.now a.version c.enter.ensures _ c.in-Refused.is c.refused.ensures
+pub returns-in-Err : goal.returns-in-Err
+returns-in-Err c = let a = c.args in as_of_sizes a.log.now a.used a.table.now a.version c.enter.ensures _ c.in-Err.is c.refused.ensures
 
-pub returns-in-Bad : goal.returns-in-Bad
-returns-in-Bad c = let a = c.args in as_of_bad a.log.now a.used a.table.now a.version c.enter.ensures _ c.in-In.is c.next_version.ensures c.in-Bad.is c.refused-in-Bad.ensures
+pub returns-in-None : goal.returns-in-None
+returns-in-None c = let a = c.args in as_of_bad a.log.now a.used a.table.now a.version c.enter.ensures _ c.in-Ok.is c.next_version.ensures c.in-None.is c.refused-in-None.ensures
 
 pub returns-in-Fine : goal.returns-in-Fine
-returns-in-Fine c = let a = c.args in as_of_done a.log.now a.used a.table.now a.version c.enter.ensures _ c.in-In.is c.next_version.ensures _ c.in-Read.is c.if-next-version.false c.stored-read.ensures c.in-Fine.is c.given.ensures
+returns-in-Fine c = let a = c.args in as_of_done a.log.now a.used a.table.now a.version c.enter.ensures _ c.in-Ok.is c.next_version.ensures _ c.in-Some.is c.if-next-version.false c.stored-read.ensures c.in-Fine.is c.given.ensures
 
-pub returns-in-Refused-answer : goal.returns-in-Refused-answer
-returns-in-Refused-answer c = let a = c.args in as_of_refused a.log.now a.used a.table.now a.version c.enter.ensures _ c.in-In.is c.next_version.ensures _ c.in-Read.is c.if-next-version.false c.stored-read.ensures _ c.in-Refused-answer.is c.refused-in-Refused-answer.ensures
+pub returns-in-Refused : goal.returns-in-Refused
+returns-in-Refused c = let a = c.args in as_of_refused a.log.now a.used a.table.now a.version c.enter.ensures _ c.in-Ok.is c.next_version.ensures _ c.in-Some.is c.if-next-version.false c.stored-read.ensures _ c.in-Refused.is c.refused-in-Refused.ensures

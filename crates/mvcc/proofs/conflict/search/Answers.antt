@@ -16,10 +16,10 @@ pub row_before-requires : goal.row_before-requires
 row_before-requires c = let a = c.args in (c.requires.0, end_within (rows a.log.now a.table.now a.mark) c.version_code-high.result c.past-end.ensures)
 
 pub key_at-requires : goal.key_at-requires
-key_at-requires c = let a = c.args in (c.requires.0, search_stands (rows a.log.now a.table.now a.mark) a.handle a.key.now c.version_code-high.ensures c.past-end.ensures c.lowest.ensures c.version_code-low.ensures _ c.row_before.ensures _ c.in-At.is)
+key_at-requires c = let a = c.args in (c.requires.0, search_stands (rows a.log.now a.table.now a.mark) a.handle a.key.now c.version_code-high.ensures c.past-end.ensures c.lowest.ensures c.version_code-low.ensures _ c.row_before.ensures _ c.in-Some.is)
 
 pub returns-in-None : goal.returns-in-None
 returns-in-None c = let a = c.args in search_none (rows a.log.now a.table.now a.mark) a.handle a.key.now c.version_code-high.ensures c.past-end.ensures c.lowest.ensures c.version_code-low.ensures _ c.row_before.ensures c.in-None.is
 
-pub returns-in-At : goal.returns-in-At
-returns-in-At c = let a = c.args in search_last (rows a.log.now a.table.now a.mark) a.handle a.key.now c.version_code-high.ensures c.past-end.ensures c.lowest.ensures c.version_code-low.ensures _ c.row_before.ensures _ c.in-At.is c.key_at.ensures c.met.ensures
+pub returns-in-Some : goal.returns-in-Some
+returns-in-Some c = let a = c.args in search_last (rows a.log.now a.table.now a.mark) a.handle a.key.now c.version_code-high.ensures c.past-end.ensures c.lowest.ensures c.version_code-low.ensures _ c.row_before.ensures _ c.in-Some.is c.key_at.ensures c.met.ensures

@@ -5,22 +5,22 @@ use native.Mathlib.Omega.{arith}
 use Rattle.mvcc.proofs.start.begin.Goals as goal
 
 pub look_round-seen-requires : goal.look_round-seen-requires
-look_round-seen-requires c = let a = c.args in in_held a.log.now a.used a.table.now _ c.enter.ensures _ c.in-In.is
+look_round-seen-requires c = let a = c.args in in_held a.log.now a.used a.table.now _ c.enter.ensures _ c.in-Ok.is
 
 pub returns-then-handle : goal.returns-then-handle
-returns-then-handle c = let a = c.args in begin_spent a.log.now a.used a.table.now c.enter.ensures _ c.in-In.is (λ i. (c.slice_known-1.given i).fits) c.look_round-seen.ensures _ c.in-Open.is c.if-handle.true c.refused-then-handle.ensures
+returns-then-handle c = let a = c.args in begin_spent a.log.now a.used a.table.now c.enter.ensures _ c.in-Ok.is (λ i. (c.slice_known-1.given i).fits) c.look_round-seen.ensures _ c.in-Some.is c.if-handle.true c.refused-then-handle.ensures
 
 pub returns-then-k-ge-MAX_OPEN : goal.returns-then-k-ge-MAX_OPEN
-returns-then-k-ge-MAX_OPEN c = let a = c.args in begin_many a.log.now a.used a.table.now c.enter.ensures _ c.in-In.is (λ i. (c.slice_known-1.given i).fits) c.look_round-seen.ensures _ c.in-Open.is c.if-handle.false c.if-k-ge-MAX_OPEN.true c.refused-then-k-ge-MAX_OPEN.ensures
+returns-then-k-ge-MAX_OPEN c = let a = c.args in begin_many a.log.now a.used a.table.now c.enter.ensures _ c.in-Ok.is (λ i. (c.slice_known-1.given i).fits) c.look_round-seen.ensures _ c.in-Some.is c.if-handle.false c.if-k-ge-MAX_OPEN.true c.refused-then-k-ge-MAX_OPEN.ensures
 
 pub start-requires : goal.start-requires
-start-requires c = let a = c.args in let w = begin_held a.log.now a.used a.table.now c.enter.ensures _ c.in-In.is (λ i. (c.slice_known-1.given i).fits) in (w.0, w.1, omega arith, begin_room a.log.now a.used a.table.now c.enter.ensures _ c.in-In.is (λ i. (c.slice_known-1.given i).fits) c.look_round-seen.ensures _ c.in-Open.is c.if-k-ge-MAX_OPEN.false)
+start-requires c = let a = c.args in let w = begin_held a.log.now a.used a.table.now c.enter.ensures _ c.in-Ok.is (λ i. (c.slice_known-1.given i).fits) in (w.0, w.1, omega arith, begin_room a.log.now a.used a.table.now c.enter.ensures _ c.in-Ok.is (λ i. (c.slice_known-1.given i).fits) c.look_round-seen.ensures _ c.in-Some.is c.if-k-ge-MAX_OPEN.false)
 
-pub returns-in-Refused : goal.returns-in-Refused
-returns-in-Refused c = let a = c.args in begin_sizes a.log.now a.used a.table.now c.enter.ensures _ c.in-Refused.is c.refused.ensures
+pub returns-in-Err : goal.returns-in-Err
+returns-in-Err c = let a = c.args in begin_sizes a.log.now a.used a.table.now c.enter.ensures _ c.in-Err.is c.refused.ensures
 
-pub returns-in-Bad : goal.returns-in-Bad
-returns-in-Bad c = let a = c.args in begin_bad a.log.now a.used a.table.now c.enter.ensures _ c.in-In.is (λ i. (c.slice_known-1.given i).fits) c.look_round-seen.ensures c.in-Bad.is c.refused-in-Bad.ensures
+pub returns-in-None : goal.returns-in-None
+returns-in-None c = let a = c.args in begin_bad a.log.now a.used a.table.now c.enter.ensures _ c.in-Ok.is (λ i. (c.slice_known-1.given i).fits) c.look_round-seen.ensures c.in-None.is c.refused-in-None.ensures
 
 pub shape_of-log-else-k-ge-MAX_OPEN : goal.shape_of-log-else-k-ge-MAX_OPEN
 shape_of-log-else-k-ge-MAX_OPEN c = c.start.auto.log
@@ -29,4 +29,4 @@ pub shape_of-table-else-k-ge-MAX_OPEN : goal.shape_of-table-else-k-ge-MAX_OPEN
 shape_of-table-else-k-ge-MAX_OPEN c = c.start.auto.table
 
 pub returns-else-k-ge-MAX_OPEN : goal.returns-else-k-ge-MAX_OPEN
-returns-else-k-ge-MAX_OPEN c = let a = c.args in begin_started a.log.now a.used a.table.now c.enter.ensures _ c.in-In.is (λ i. (c.slice_known-1.given i).fits) c.look_round-seen.ensures _ c.in-Open.is c.if-handle.false c.if-k-ge-MAX_OPEN.false c.start.ensures.0 c.start.ensures.1
+returns-else-k-ge-MAX_OPEN c = let a = c.args in begin_started a.log.now a.used a.table.now c.enter.ensures _ c.in-Ok.is (λ i. (c.slice_known-1.given i).fits) c.look_round-seen.ensures _ c.in-Some.is c.if-handle.false c.if-k-ge-MAX_OPEN.false c.start.ensures.0 c.start.ensures.1

@@ -13,20 +13,20 @@ slice_bounds-laid-end c = sym (length-take-le _ _ (omega arith))
 pub laid-requires : goal.laid-requires
 laid-requires c = let p = c.requires in (p.0, p.1, p.2)
 
-pub shape_of-log-in-Refused : goal.shape_of-log-in-Refused
-shape_of-log-in-Refused c = c.laid.auto.log
+pub shape_of-log-in-Err : goal.shape_of-log-in-Err
+shape_of-log-in-Err c = c.laid.auto.log
 
-pub shape_of-table-in-Refused : goal.shape_of-table-in-Refused
-shape_of-table-in-Refused c = c.laid.auto.table
+pub shape_of-table-in-Err : goal.shape_of-table-in-Err
+shape_of-table-in-Err c = c.laid.auto.table
 
-pub returns-in-Refused : goal.returns-in-Refused
-returns-in-Refused c = let a = c.args in start_refused a.log.now a.table.now a.mark a.«open» a.handle (front-laid _ (set_bytes (set_of a.handle)) _ c.put_set-n.ensures.1 c.put_set-n.ensures.0) c.laid.ensures _ c.in-Refused.is c.refused.ensures
+pub returns-in-Err : goal.returns-in-Err
+returns-in-Err c = let a = c.args in start_refused a.log.now a.table.now a.mark a.«open» a.handle (front-laid _ (set_bytes (set_of a.handle)) _ c.put_set-n.ensures.1 c.put_set-n.ensures.0) c.laid.ensures _ c.in-Err.is c.refused.ensures
 
-pub shape_of-log-in-Done : goal.shape_of-log-in-Done
-shape_of-log-in-Done c = c.laid.auto.log
+pub shape_of-log-in-Ok : goal.shape_of-log-in-Ok
+shape_of-log-in-Ok c = c.laid.auto.log
 
-pub shape_of-table-in-Done : goal.shape_of-table-in-Done
-shape_of-table-in-Done c = c.laid.auto.table
+pub shape_of-table-in-Ok : goal.shape_of-table-in-Ok
+shape_of-table-in-Ok c = c.laid.auto.table
 
-pub returns-in-Done : goal.returns-in-Done
-returns-in-Done c = let a = c.args in start_given a.log.now a.table.now a.mark a.«open» a.handle (front-laid _ (set_bytes (set_of a.handle)) _ c.put_set-n.ensures.1 c.put_set-n.ensures.0) c.laid.ensures _ c.in-Done.is c.given.ensures
+pub returns-in-Ok : goal.returns-in-Ok
+returns-in-Ok c = let a = c.args in start_given a.log.now a.table.now a.mark a.«open» a.handle (front-laid _ (set_bytes (set_of a.handle)) _ c.put_set-n.ensures.1 c.put_set-n.ensures.0) c.laid.ensures _ c.in-Ok.is c.given.ensures

@@ -12,19 +12,19 @@ pub returns-in-None : goal.returns-in-None
 returns-in-None c = seek_over c.loop-p.invariant c.row_before.ensures c.in-None.is
 
 pub seen_at-seen-requires : goal.seen_at-seen-requires
-seen_at-seen-requires c = (c.requires.0, seek_stands c.loop-p.invariant c.row_before.ensures _ c.in-At.is)
+seen_at-seen-requires c = (c.requires.0, seek_stands c.loop-p.invariant c.row_before.ensures _ c.in-Some.is)
 
 pub returns-in-Gone : goal.returns-in-Gone
-returns-in-Gone c = seek_gone c.loop-p.invariant c.row_before.ensures _ c.in-At.is c.seen_at-seen.ensures c.in-Gone.is
+returns-in-Gone c = seek_gone c.loop-p.invariant c.row_before.ensures _ c.in-Some.is c.seen_at-seen.ensures c.in-Gone.is
 
 pub returns-in-Bad : goal.returns-in-Bad
-returns-in-Bad c = seek_bad c.loop-p.invariant c.row_before.ensures _ c.in-At.is c.seen_at-seen.ensures c.in-Bad.is
+returns-in-Bad c = seek_bad c.loop-p.invariant c.row_before.ensures _ c.in-Some.is c.seen_at-seen.ensures c.in-Bad.is
 
 pub returns-in-Value : goal.returns-in-Value
-returns-in-Value c = seek_value c.loop-p.invariant c.row_before.ensures _ c.in-At.is c.seen_at-seen.ensures _ c.in-Value.is
+returns-in-Value c = seek_value c.loop-p.invariant c.row_before.ensures _ c.in-Some.is c.seen_at-seen.ensures _ c.in-Value.is
 
 pub loop-p-smaller : goal.loop-p-smaller
-loop-p-smaller c = seek_less c.loop-p.invariant c.row_before.ensures _ c.in-At.is
+loop-p-smaller c = seek_less c.loop-p.invariant c.row_before.ensures _ c.in-Some.is
 
 pub loop-p-preserved : goal.loop-p-preserved
-loop-p-preserved c = seek_hidden c.loop-p.invariant c.row_before.ensures _ c.in-At.is c.seen_at-seen.ensures c.in-Hidden.is
+loop-p-preserved c = seek_hidden c.loop-p.invariant c.row_before.ensures _ c.in-Some.is c.seen_at-seen.ensures c.in-Hidden.is

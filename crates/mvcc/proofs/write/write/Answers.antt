@@ -6,34 +6,34 @@ use Rattle.mvcc.proofs.write.WriteLaws.{write_refused, write_held, mark-counts, 
 use Rattle.mvcc.proofs.write.write.Goals as goal
 
 pub search-requires : goal.search-requires
-search-requires c = let a = c.args in (write_held a.log.now a.used a.table.now a.handle a.key.now (a.head.now ++ a.body.now) (length a.body.now) c.allowed.ensures _ c.in-Fine.is, key-short a.log.now a.used a.table.now a.handle a.key.now (a.head.now ++ a.body.now) (length a.body.now) c.allowed.ensures _ c.in-Fine.is)
+search-requires c = let a = c.args in (write_held a.log.now a.used a.table.now a.handle a.key.now (a.head.now ++ a.body.now) (length a.body.now) c.allowed.ensures _ c.in-Ok.is, key-short a.log.now a.used a.table.now a.handle a.key.now (a.head.now ++ a.body.now) (length a.body.now) c.allowed.ensures _ c.in-Ok.is)
 
 pub laid-requires : goal.laid-requires
-laid-requires c = let a = c.args in (write_held a.log.now a.used a.table.now a.handle a.key.now (a.head.now ++ a.body.now) (length a.body.now) c.allowed.ensures _ c.in-Fine.is, mark-counts a.log.now a.used a.table.now a.handle a.key.now (a.head.now ++ a.body.now) (length a.body.now) c.allowed.ensures _ c.in-Fine.is, key-short a.log.now a.used a.table.now a.handle a.key.now (a.head.now ++ a.body.now) (length a.body.now) c.allowed.ensures _ c.in-Fine.is, c.requires, value-small a.log.now a.used a.table.now a.handle a.key.now (a.head.now ++ a.body.now) (length a.body.now) c.allowed.ensures _ c.in-Fine.is)
+laid-requires c = let a = c.args in (write_held a.log.now a.used a.table.now a.handle a.key.now (a.head.now ++ a.body.now) (length a.body.now) c.allowed.ensures _ c.in-Ok.is, mark-counts a.log.now a.used a.table.now a.handle a.key.now (a.head.now ++ a.body.now) (length a.body.now) c.allowed.ensures _ c.in-Ok.is, key-short a.log.now a.used a.table.now a.handle a.key.now (a.head.now ++ a.body.now) (length a.body.now) c.allowed.ensures _ c.in-Ok.is, c.requires, value-small a.log.now a.used a.table.now a.handle a.key.now (a.head.now ++ a.body.now) (length a.body.now) c.allowed.ensures _ c.in-Ok.is)
 
-pub shape_of-log-in-Refused : goal.shape_of-log-in-Refused
-shape_of-log-in-Refused c = refl
+pub shape_of-log-in-Err : goal.shape_of-log-in-Err
+shape_of-log-in-Err c = refl
 
-pub shape_of-table-in-Refused : goal.shape_of-table-in-Refused
-shape_of-table-in-Refused c = refl
+pub shape_of-table-in-Err : goal.shape_of-table-in-Err
+shape_of-table-in-Err c = refl
 
-pub returns-in-Refused : goal.returns-in-Refused
-returns-in-Refused c = let a = c.args in write_refused a.log.now a.used a.table.now a.handle a.key.now (a.head.now ++ a.body.now) (length a.body.now) c.allowed.ensures _ c.in-Refused.is
+pub returns-in-Err : goal.returns-in-Err
+returns-in-Err c = let a = c.args in write_refused a.log.now a.used a.table.now a.handle a.key.now (a.head.now ++ a.body.now) (length a.body.now) c.allowed.ensures _ c.in-Err.is
 
-pub shape_of-log-in-Refused-search : goal.shape_of-log-in-Refused-search
-shape_of-log-in-Refused-search c = refl
+pub shape_of-log-in-Err-search : goal.shape_of-log-in-Err-search
+shape_of-log-in-Err-search c = refl
 
-pub shape_of-table-in-Refused-search : goal.shape_of-table-in-Refused-search
-shape_of-table-in-Refused-search c = refl
+pub shape_of-table-in-Err-search : goal.shape_of-table-in-Err-search
+shape_of-table-in-Err-search c = refl
 
-pub returns-in-Refused-search : goal.returns-in-Refused-search
-returns-in-Refused-search c = let a = c.args in write_found a.log.now a.used a.table.now a.handle a.key.now (a.head.now ++ a.body.now) (length a.body.now) c.allowed.ensures _ c.in-Fine.is _ c.search.ensures _ c.in-Refused-search.is
+pub returns-in-Err-search : goal.returns-in-Err-search
+returns-in-Err-search c = let a = c.args in write_found a.log.now a.used a.table.now a.handle a.key.now (a.head.now ++ a.body.now) (length a.body.now) c.allowed.ensures _ c.in-Ok.is _ c.search.ensures _ c.in-Err-search.is
 
-pub shape_of-log-in-Fine-search : goal.shape_of-log-in-Fine-search
-shape_of-log-in-Fine-search c = c.laid.auto.log
+pub shape_of-log-in-Ok-search : goal.shape_of-log-in-Ok-search
+shape_of-log-in-Ok-search c = c.laid.auto.log
 
-pub shape_of-table-in-Fine-search : goal.shape_of-table-in-Fine-search
-shape_of-table-in-Fine-search c = c.laid.auto.table
+pub shape_of-table-in-Ok-search : goal.shape_of-table-in-Ok-search
+shape_of-table-in-Ok-search c = c.laid.auto.table
 
-pub returns-in-Fine-search : goal.returns-in-Fine-search
-returns-in-Fine-search c = let a = c.args in write_laid a.log.now a.used a.table.now a.handle a.key.now (a.head.now ++ a.body.now) (length a.body.now) c.allowed.ensures _ c.in-Fine.is _ c.search.ensures c.in-Fine-search.is _ _ _ c.laid.ensures
+pub returns-in-Ok-search : goal.returns-in-Ok-search
+returns-in-Ok-search c = let a = c.args in write_laid a.log.now a.used a.table.now a.handle a.key.now (a.head.now ++ a.body.now) (length a.body.now) c.allowed.ensures _ c.in-Ok.is _ c.search.ensures c.in-Ok-search.is _ _ _ c.laid.ensures

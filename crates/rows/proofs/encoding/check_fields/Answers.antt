@@ -9,14 +9,14 @@ loop-i-init c = refl
 pub field_at-requires : goal.field_at-requires
 field_at-requires c = omega (arith, c.requires)
 
-pub returns-in-Denied : goal.returns-in-Denied
-returns-in-Denied c =
+pub returns-in-Err : goal.returns-in-Err
+returns-in-Err c =
     let a = c.args in
     check-bad a.texts.now a.row _ c.loop-i.invariant
     c.requires
     c.well_formed.0.1.1.0.1.0.1
     c.loop-i-test.true _ c.field_at.ensures _
-    c.check_field.ensures c.in-Denied.d c.in-Denied.is
+    c.check_field.ensures c.in-Err.d c.in-Err.is
 
 pub loop-i-preserved : goal.loop-i-preserved
 loop-i-preserved c =
@@ -25,7 +25,7 @@ loop-i-preserved c =
     c.requires
     c.well_formed.0.1.1.0.1.0.1
     c.loop-i-test.true _ c.field_at.ensures _
-    c.check_field.ensures c.in-Whole.is
+    c.check_field.ensures c.in-Ok.is
 
 pub returns : goal.returns
 returns c =

@@ -9,8 +9,8 @@ loop-i-init c = refl
 pub field_at-requires : goal.field_at-requires
 field_at-requires c = omega (arith, c.requires)
 
-pub returns-in-Short : goal.returns-in-Short
-returns-in-Short c =
+pub returns-in-None : goal.returns-in-None
+returns-in-None c =
     let a = c.args in
     row_short a.texts.now a.row c.loop-i.i
     c.requires
@@ -18,7 +18,7 @@ returns-in-Short c =
     c.loop-i-test.true c.field_at.result
     c.field_at.ensures a.room c.loop-i.left
     c.loop-i.invariant c.field_room.result
-    c.field_room.ensures c.in-Short.is
+    c.field_room.ensures c.in-None.is
 
 pub loop-i-preserved : goal.loop-i-preserved
 loop-i-preserved c =
@@ -29,7 +29,7 @@ loop-i-preserved c =
     c.loop-i-test.true c.field_at.result
     c.field_at.ensures a.room c.loop-i.left
     c.loop-i.invariant c.field_room.result
-    c.field_room.ensures c.in-Left.m c.in-Left.is
+    c.field_room.ensures c.in-Some.m c.in-Some.is
 
 pub returns : goal.returns
 returns c =

@@ -5,9 +5,9 @@ use Rattle.tape.proofs.AnswerLaws.{laid_for}
 use Rattle.tape.proofs.answers.answer_got.Goals as goal
 
 -- src/answers.rt:79:1
-pub returns-in-At : goal.returns-in-At
-returns-in-At c = laid_for c.args.out.now (got_bytes c.args.log.now) 0 c.in-At.is (laid_for c.args.out.now value_bytes 0 (sym c.part.ensures) c.answer_value.ensures)
+pub returns-in-Ok : goal.returns-in-Ok
+returns-in-Ok c = laid_for c.args.out.now (got_bytes c.args.log.now) 0 c.in-Ok.is (laid_for c.args.out.now value_bytes 0 (sym c.part.ensures) c.answer_value.ensures)
 
 -- src/answers.rt:79:1
-pub returns-in-Refused : goal.returns-in-Refused
-returns-in-Refused c = laid_for c.args.out.now (got_bytes c.args.log.now) 0 c.in-Refused.is c.put_refusal.ensures
+pub returns-in-Err : goal.returns-in-Err
+returns-in-Err c = laid_for c.args.out.now (got_bytes c.args.log.now) 0 c.in-Err.is c.put_refusal.ensures

@@ -4,5 +4,5 @@ use Rattle.tape.specs.Answers.{emptied_by}
 use Rattle.tape.proofs.answers.empty_ended.Goals as goal
 
 -- src/answers.rt:100:1
-pub returns-in-Done : goal.returns-in-Done
-returns-in-Done c = c.empty.ensures ∙ ap (emptied_by c.args.slots.now c.args.slot) (sym c.in-Done.is)
+pub returns-in-Ok : goal.returns-in-Ok
+returns-in-Ok c = c.empty.ensures ∙ ap (emptied_by c.args.slots.now c.args.slot) (sym c.in-Ok.is)

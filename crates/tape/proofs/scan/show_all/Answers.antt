@@ -16,7 +16,7 @@ pub loop-k-smaller : goal.loop-k-smaller
 loop-k-smaller c = omega (arith, c.loop-k.invariant.fits)
 
 pub loop-k-preserved : goal.loop-k-preserved
-loop-k-preserved c = scan_turn c.loop-k.invariant c.show_step.ensures _ c.in-Pair.is c.show_step.auto.kept c.show_step.auto.out
+loop-k-preserved c = scan_turn c.loop-k.invariant c.show_step.ensures _ c.in-Some.is c.show_step.auto.kept c.show_step.auto.out
 
 pub overflow_add-result : goal.overflow_add-result
 overflow_add-result c = omega (arith, c.loop-k.invariant.fits)
@@ -24,11 +24,11 @@ overflow_add-result c = omega (arith, c.loop-k.invariant.fits)
 pub overflow_mul-result : goal.overflow_mul-result
 overflow_mul-result c = omega (arith, c.loop-k.invariant.fits)
 
-pub shape_of-kept-in-Over : goal.shape_of-kept-in-Over
-shape_of-kept-in-Over c = c.show_step.auto.kept ∙ c.loop-k.invariant.room ∙ sym c.requires.1
+pub shape_of-kept-in-None : goal.shape_of-kept-in-None
+shape_of-kept-in-None c = c.show_step.auto.kept ∙ c.loop-k.invariant.room ∙ sym c.requires.1
 
-pub shape_of-out-in-Over : goal.shape_of-out-in-Over
-shape_of-out-in-Over c = c.show_step.auto.out ∙ c.loop-k.invariant.long
+pub shape_of-out-in-None : goal.shape_of-out-in-None
+shape_of-out-in-None c = c.show_step.auto.out ∙ c.loop-k.invariant.long
 
-pub returns-in-Over : goal.returns-in-Over
-returns-in-Over c = scan_over c.loop-k.invariant c.show_step.ensures c.in-Over.is
+pub returns-in-None : goal.returns-in-None
+returns-in-None c = scan_over c.loop-k.invariant c.show_step.ensures c.in-None.is

@@ -4,13 +4,13 @@ use Rattle.bitcask.proofs.engine.SetLaws.{number_at, number_absent, behind-at, b
 use Rattle.bitcask.proofs.engine.change.behind.Goals as goal
 
 pub overflow_add-result : goal.overflow_add-result
-overflow_add-result c = omega (arith, number_at _ _ c.args.before.count c.requires.1 c.in-At.is)
+overflow_add-result c = omega (arith, number_at _ _ c.args.before.count c.requires.1 c.in-Ok.is)
 
-pub overflow_add-result-in-Absent : goal.overflow_add-result-in-Absent
-overflow_add-result-in-Absent c = omega (arith, number_absent _ _ c.args.before.count c.requires.1 c.in-Absent.is)
+pub overflow_add-result-in-Err : goal.overflow_add-result-in-Err
+overflow_add-result-in-Err c = omega (arith, number_absent _ _ c.args.before.count c.requires.1 c.in-Err.is)
 
-pub returns-in-At : goal.returns-in-At
-returns-in-At c = behind-at _ _ _ c.in-At.is
+pub returns-in-Ok : goal.returns-in-Ok
+returns-in-Ok c = behind-at _ _ _ c.in-Ok.is
 
-pub returns-in-Absent : goal.returns-in-Absent
-returns-in-Absent c = behind_absent _ _ _ c.in-Absent.is
+pub returns-in-Err : goal.returns-in-Err
+returns-in-Err c = behind_absent _ _ _ c.in-Err.is

@@ -2,8 +2,8 @@
 use Rattle.bitcask.proofs.engine.SetLaws.{place_at, place_absent}
 use Rattle.bitcask.proofs.engine.change.place_of.Goals as goal
 
-pub returns-in-At : goal.returns-in-At
-returns-in-At c = place_at _ _ c.in-At.is
+pub returns-in-Ok : goal.returns-in-Ok
+returns-in-Ok c = place_at _ _ c.in-Ok.is
 
-pub returns-in-Absent : goal.returns-in-Absent
-returns-in-Absent c = place_absent _ _ c.in-Absent.is
+pub returns-in-Err : goal.returns-in-Err
+returns-in-Err c = place_absent _ _ c.in-Err.is

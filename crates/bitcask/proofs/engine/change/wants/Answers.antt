@@ -2,8 +2,8 @@
 use Rattle.bitcask.proofs.engine.SetLaws.{wants-at, wants_absent}
 use Rattle.bitcask.proofs.engine.change.wants.Goals as goal
 
-pub returns-in-At : goal.returns-in-At
-returns-in-At c = wants-at _ _ c.in-At.is
+pub returns-in-Ok : goal.returns-in-Ok
+returns-in-Ok c = wants-at _ _ c.in-Ok.is
 
-pub returns-in-Absent : goal.returns-in-Absent
-returns-in-Absent c = wants_absent _ _ c.in-Absent.is
+pub returns-in-Err : goal.returns-in-Err
+returns-in-Err c = wants_absent _ _ c.in-Err.is

@@ -11,10 +11,10 @@ pub returns-then-room-klen : goal.returns-then-room-klen
 returns-then-room-klen c = let a = c.args in read_keyless a.log.now a.used a.at c.word_at-klen.ensures (omega arith)
 
 pub returns-then-room-klen-2 : goal.returns-then-room-klen-2
-returns-then-room-klen-2 c = let a = c.args in read_cut a.log.now a.used a.at c.word_at-klen.ensures c.word_at.ensures c.value_len.ensures c.in-Bytes.vlen c.in-Bytes.is (omega arith)
+returns-then-room-klen-2 c = let a = c.args in read_cut a.log.now a.used a.at c.word_at-klen.ensures c.word_at.ensures c.value_len.ensures c.in-Some.vlen c.in-Some.is (omega arith)
 
 pub returns-else-room-klen-2 : goal.returns-else-room-klen-2
-returns-else-room-klen-2 c = let a = c.args in read_set_lem a.log.now a.used a.at c.word_at-klen.ensures c.word_at.ensures c.value_len.ensures c.in-Bytes.vlen c.in-Bytes.is (omega arith)
+returns-else-room-klen-2 c = let a = c.args in read_set_lem a.log.now a.used a.at c.word_at-klen.ensures c.word_at.ensures c.value_len.ensures c.in-Some.vlen c.in-Some.is (omega arith)
 
-pub returns-in-Gone : goal.returns-in-Gone
-returns-in-Gone c = let a = c.args in read_del a.log.now a.used a.at c.word_at-klen.ensures c.word_at.ensures c.value_len.ensures c.in-Gone.is (omega arith)
+pub returns-in-None : goal.returns-in-None
+returns-in-None c = let a = c.args in read_del a.log.now a.used a.at c.word_at-klen.ensures c.word_at.ensures c.value_len.ensures c.in-None.is (omega arith)

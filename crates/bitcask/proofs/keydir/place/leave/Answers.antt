@@ -5,13 +5,13 @@ use native.Mathlib.Omega.{arith}
 use Rattle.bitcask.proofs.keydir.place.leave.Goals as goal
 
 pub remove-requires : goal.remove-requires
-remove-requires c = let a = c.args in (among-at a.count a.found _ c.requires.0 c.in-At.is, c.requires.1)
+remove-requires c = let a = c.args in (among-at a.count a.found _ c.requires.0 c.in-Ok.is, c.requires.1)
 
 pub overflow_sub-result : goal.overflow_sub-result
-overflow_sub-result c = let h = among-at c.args.count c.args.found _ c.requires.0 c.in-At.is in omega arith
+overflow_sub-result c = let h = among-at c.args.count c.args.found _ c.requires.0 c.in-Ok.is in omega arith
 
-pub returns-in-At : goal.returns-in-At
-returns-in-At c = let a = c.args in leave_at a.table.now a.count a.found _ c.requires.1 c.requires.0 c.in-At.is c.remove.ensures
+pub returns-in-Ok : goal.returns-in-Ok
+returns-in-Ok c = let a = c.args in leave_at a.table.now a.count a.found _ c.requires.1 c.requires.0 c.in-Ok.is c.remove.ensures
 
-pub returns-in-Before : goal.returns-in-Before
-returns-in-Before c = let a = c.args in leave_none a.table.now a.count a.found _ c.requires.1 c.requires.0 c.in-Before.is
+pub returns-in-Err : goal.returns-in-Err
+returns-in-Err c = let a = c.args in leave_none a.table.now a.count a.found _ c.requires.1 c.requires.0 c.in-Err.is

@@ -9,7 +9,7 @@ overflow_mul-j c =
     omega (
       arith,
       one_within a.log.now a.table.now a.count a.gap.to a.gap.from a.key.now c.requires.0 c.requires.1 c.requires.2 (part_place
-          a.log.now a.table.now a.count a.gap.from a.key.now c.find-found.ensures) _ c.in-At.is,
+          a.log.now a.table.now a.count a.gap.from a.key.now c.find-found.ensures) _ c.in-Ok.is,
     )
 
 pub overflow_add-start : goal.overflow_add-start
@@ -18,14 +18,14 @@ overflow_add-start c =
     omega (
       arith,
       one_within a.log.now a.table.now a.count a.gap.to a.gap.from a.key.now c.requires.0 c.requires.1 c.requires.2 (part_place
-          a.log.now a.table.now a.count a.gap.from a.key.now c.find-found.ensures) _ c.in-At.is,
+          a.log.now a.table.now a.count a.gap.from a.key.now c.find-found.ensures) _ c.in-Ok.is,
     )
 
 pub move_down-requires : goal.move_down-requires
 move_down-requires c =
     let a = c.args in
     let h = one_within a.log.now a.table.now a.count a.gap.to a.gap.from a.key.now c.requires.0 c.requires.1 c.requires.2 (part_place a.log.now
-    a.table.now a.count a.gap.from a.key.now c.find-found.ensures) _ c.in-At.is in
+    a.table.now a.count a.gap.from a.key.now c.find-found.ensures) _ c.in-Ok.is in
     (omega arith, omega arith, omega arith)
 
 pub overflow_add-result : goal.overflow_add-result
@@ -35,40 +35,40 @@ overflow_add-result c =
       arith,
       one_within a.log.now a.table.now a.count a.gap.to a.gap.from a.key.now c.requires.0 c.requires.1 c.requires.2 (part_place
           a.log.now a.table.now a.count a.gap.from a.key.now c.find-found.ensures) _
-          c.in-At.is,
+          c.in-Ok.is,
     )
 
-pub overflow_add-result-in-At : goal.overflow_add-result-in-At
-overflow_add-result-in-At c =
+pub overflow_add-result-in-Ok : goal.overflow_add-result-in-Ok
+overflow_add-result-in-Ok c =
     let a = c.args in
     omega (
       arith,
       one_within a.log.now a.table.now a.count a.gap.to a.gap.from a.key.now c.requires.0 c.requires.1 c.requires.2 (part_place
           a.log.now a.table.now a.count a.gap.from a.key.now
           c.find-found.ensures) _
-          c.in-At.is,
+          c.in-Ok.is,
     )
 
-pub overflow_add-result-in-At-2 : goal.overflow_add-result-in-At-2
-overflow_add-result-in-At-2 c =
+pub overflow_add-result-in-Ok-2 : goal.overflow_add-result-in-Ok-2
+overflow_add-result-in-Ok-2 c =
     let a = c.args in
     omega (
       arith,
       one_within a.log.now a.table.now a.count a.gap.to a.gap.from a.key.now c.requires.0 c.requires.1 c.requires.2 (part_place
           a.log.now a.table.now a.count a.gap.from a.key.now
           c.find-found.ensures) _
-          c.in-At.is,
+          c.in-Ok.is,
     )
 
-pub returns-in-At : goal.returns-in-At
-returns-in-At c =
+pub returns-in-Ok : goal.returns-in-Ok
+returns-in-Ok c =
     let a = c.args in
     one_takes a.log.now a.table.now a.count a.gap.to a.gap.from a.key.now c.requires.0 c.requires.1 c.requires.2 (part_place a.log.now
     a.table.now a.count a.gap.from a.key.now c.find-found.ensures) _
-    c.in-At.is c.move_down.ensures
+    c.in-Ok.is c.move_down.ensures
 
-pub returns-in-Before : goal.returns-in-Before
-returns-in-Before c =
+pub returns-in-Err : goal.returns-in-Err
+returns-in-Err c =
     let a = c.args in
     one_stays a.log.now a.table.now a.count a.gap.to a.gap.from a.key.now c.requires.0 c.requires.1 c.requires.2 (part_place a.log.now
-    a.table.now a.count a.gap.from a.key.now c.find-found.ensures) _ c.in-Before.is
+    a.table.now a.count a.gap.from a.key.now c.find-found.ensures) _ c.in-Err.is

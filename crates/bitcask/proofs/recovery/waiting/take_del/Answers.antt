@@ -33,8 +33,8 @@ leave-n-requires c =
       omega (arith, c.requires.1),
     )
 
-pub returns-in-At : goal.returns-in-At
-returns-in-At c =
+pub returns-in-Ok : goal.returns-in-Ok
+returns-in-Ok c =
     let a = c.args in
     del_waits a.log.now a.table.now a.pend.now a.h a.s c.requires.0 c.requires.1
     c.key_of.ensures
@@ -42,10 +42,10 @@ returns-in-At c =
     c.waits_gone.ensures c.requires.2
     c.if-waits_gone.false
     c.key_of-2.ensures c.find-found.ensures _
-    c.in-At.is c.enter-n.ensures c.less_by.ensures
+    c.in-Ok.is c.enter-n.ensures c.less_by.ensures
 
-pub returns-in-Before : goal.returns-in-Before
-returns-in-Before c =
+pub returns-in-Err : goal.returns-in-Err
+returns-in-Err c =
     let a = c.args in
     del_not a.log.now a.table.now a.pend.now a.h a.s c.requires.0 c.requires.1
     c.key_of.ensures
@@ -53,5 +53,5 @@ returns-in-Before c =
     c.waits_gone.ensures c.requires.2
     c.if-waits_gone.false
     c.key_of-2.ensures
-    c.find-found.ensures _ c.in-Before.is
-    c.leave-n.ensures c.less_by-in-Before.ensures c.less_by-in-Before-2.ensures
+    c.find-found.ensures _ c.in-Err.is
+    c.leave-n.ensures c.less_by-in-Err.ensures c.less_by-in-Err-2.ensures

@@ -15,14 +15,14 @@ returns-then-slots-h c =
     let a = c.args in
     new_full a.log.now a.table.now a.pend.now a.h a.s c.requires.0 c.requires.1 c.requires.2 a.i c.requires.3
     c.key_of.ensures c.find-found.ensures a.end _
-    c.in-Before.is c.if-slots-h.true
+    c.in-Err.is c.if-slots-h.true
 
 pub enter-n-requires-then-goes_last : goal.enter-n-requires-then-goes_last
 enter-n-requires-then-goes_last c =
     let a = c.args in (
       table-among a.log.now a.table.now a.pend.now a.h a.s c.requires.0 c.requires.1 _ (key-place a.log.now a.s (slots_of a.h.count
           a.table.now) c.key_of.ensures
-          c.find-found.ensures c.in-Before.is),
+          c.find-found.ensures c.in-Err.is),
       c.requires.0,
     )
 
@@ -32,21 +32,21 @@ returns-then-goes_last c =
     new_last a.log.now a.table.now a.pend.now a.h a.s c.requires.0 c.requires.1 c.requires.2 a.i c.requires.3
     c.key_of.ensures
     c.find-found.ensures a.end _
-    c.in-Before.is
+    c.in-Err.is
     c.if-slots-h.false c.goes_last.ensures
     c.if-goes_last.true c.enter-n-then-goes_last.ensures
 
-pub enter-n-requires-in-Before : goal.enter-n-requires-in-Before
-enter-n-requires-in-Before c =
+pub enter-n-requires-in-Err : goal.enter-n-requires-in-Err
+enter-n-requires-in-Err c =
     let a = c.args in
     (pend_among a.log.now a.table.now a.pend.now a.h a.s c.requires.0 c.requires.1 _ c.requires.3, omega (arith, c.requires.1))
 
-pub returns-in-At : goal.returns-in-At
-returns-in-At c =
+pub returns-in-Ok : goal.returns-in-Ok
+returns-in-Ok c =
     let a = c.args in
     new_at a.log.now a.table.now a.pend.now a.h a.s c.requires.0 c.requires.1 c.requires.2 a.i c.requires.3
     c.key_of.ensures c.find-found.ensures a.end _
-    c.in-At.is c.enter-n.ensures
+    c.in-Ok.is c.enter-n.ensures
 
 pub returns-else-goes_last : goal.returns-else-goes_last
 returns-else-goes_last c =
@@ -54,5 +54,5 @@ returns-else-goes_last c =
     new_waits a.log.now a.table.now a.pend.now a.h a.s c.requires.0 c.requires.1 c.requires.2 a.i c.requires.3
     c.key_of.ensures
     c.find-found.ensures a.end _
-    c.in-Before.is
-    c.if-slots-h.false c.enter-n-in-Before.ensures
+    c.in-Err.is
+    c.if-slots-h.false c.enter-n-in-Err.ensures

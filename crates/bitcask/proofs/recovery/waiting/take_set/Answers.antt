@@ -38,8 +38,8 @@ returns-then-waits_gone c =
     c.if-waits_gone.true c.if-table-h.false
     c.enter-n.ensures
 
-pub enter-n-requires-in-At : goal.enter-n-requires-in-At
-enter-n-requires-in-At c =
+pub enter-n-requires-in-Ok : goal.enter-n-requires-in-Ok
+enter-n-requires-in-Ok c =
     let a = c.args in (
       pend_among a.log.now a.table.now a.pend.now a.h a.s c.requires.0 c.requires.1 _
           c.find-held.ensures,
@@ -54,7 +54,7 @@ take_new-requires c =
       c.requires.2,
       key-place a.log.now a.s (slots_of a.h.waiting a.pend.now)
           c.key_of.ensures c.find-held.ensures
-          c.in-Before.is,
+          c.in-Err.is,
     )
 
 pub returns-else-waits_gone : goal.returns-else-waits_gone
@@ -63,8 +63,8 @@ returns-else-waits_gone c =
     set-over a.log.now a.table.now a.pend.now a.h a.s c.requires.0 c.requires.1
     c.key_of.ensures
     c.find-held.ensures c.waits_gone.ensures
-    c.requires.2 a.end _ c.in-At.is c.if-waits_gone.false
-    c.enter-n-in-At.ensures
+    c.requires.2 a.end _ c.in-Ok.is c.if-waits_gone.false
+    c.enter-n-in-Ok.ensures
 
-pub returns-in-Before : goal.returns-in-Before
-returns-in-Before c = c.take_new.ensures
+pub returns-in-Err : goal.returns-in-Err
+returns-in-Err c = c.take_new.ensures

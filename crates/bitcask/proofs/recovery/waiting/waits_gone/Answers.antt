@@ -7,12 +7,12 @@ use Rattle.bitcask.proofs.recovery.waiting.waits_gone.Goals as goal
 pub slot_at-requires : goal.slot_at-requires
 slot_at-requires c =
     let a = c.args in
-    omega (arith, c.requires.1, among-at a.waiting a.held _ c.requires.0 c.in-At.is)
+    omega (arith, c.requires.1, among-at a.waiting a.held _ c.requires.0 c.in-Ok.is)
 
-pub returns-in-At : goal.returns-in-At
-returns-in-At c =
+pub returns-in-Ok : goal.returns-in-Ok
+returns-in-Ok c =
     let a = c.args in
-    waits_at a.pend.now a.waiting a.held _ c.requires.0 c.in-At.is c.slot_at.ensures c.is_gone.ensures
+    waits_at a.pend.now a.waiting a.held _ c.requires.0 c.in-Ok.is c.slot_at.ensures c.is_gone.ensures
 
-pub returns-in-Before : goal.returns-in-Before
-returns-in-Before c = let a = c.args in waits_before a.pend.now a.waiting a.held _ c.in-Before.is
+pub returns-in-Err : goal.returns-in-Err
+returns-in-Err c = let a = c.args in waits_before a.pend.now a.waiting a.held _ c.in-Err.is

@@ -4,13 +4,13 @@ use Rattle.mvcc.proofs.read.GetLaws.{get_refused, get_long, get_seen}
 use Rattle.mvcc.proofs.read.get.get.Goals as goal
 
 pub returns-then-key-gt-MAX_KEY : goal.returns-then-key-gt-MAX_KEY
-returns-then-key-gt-MAX_KEY c = let a = c.args in get_long a.log.now a.used a.table.now a.handle a.key.now c.admit.ensures _ c.in-Fine.is c.if-key-gt-MAX_KEY.true
+returns-then-key-gt-MAX_KEY c = let a = c.args in get_long a.log.now a.used a.table.now a.handle a.key.now c.admit.ensures _ c.in-Ok.is c.if-key-gt-MAX_KEY.true
 
 pub highest-requires : goal.highest-requires
-highest-requires c = let a = c.args in (fine_held a.log.now a.used a.table.now a.handle c.admit.ensures _ c.in-Fine.is, c.if-key-gt-MAX_KEY.false)
+highest-requires c = let a = c.args in (fine_held a.log.now a.used a.table.now a.handle c.admit.ensures _ c.in-Ok.is, c.if-key-gt-MAX_KEY.false)
 
-pub returns-in-Refused : goal.returns-in-Refused
-returns-in-Refused c = let a = c.args in get_refused a.log.now a.used a.table.now a.handle a.key.now c.admit.ensures _ c.in-Refused.is
+pub returns-in-Err : goal.returns-in-Err
+returns-in-Err c = let a = c.args in get_refused a.log.now a.used a.table.now a.handle a.key.now c.admit.ensures _ c.in-Err.is
 
 pub returns-else-key-gt-MAX_KEY : goal.returns-else-key-gt-MAX_KEY
-returns-else-key-gt-MAX_KEY c = let a = c.args in get_seen a.log.now a.used a.table.now a.handle a.key.now c.admit.ensures _ c.in-Fine.is c.if-key-gt-MAX_KEY.false c.highest.ensures c.located.ensures
+returns-else-key-gt-MAX_KEY c = let a = c.args in get_seen a.log.now a.used a.table.now a.handle a.key.now c.admit.ensures _ c.in-Ok.is c.if-key-gt-MAX_KEY.false c.highest.ensures c.located.ensures
