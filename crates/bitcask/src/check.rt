@@ -9,7 +9,7 @@ ghost use Rattle.bitcask.specs.recovery.Recover.{item_of, items};
 ghost use Rattle.bitcask.specs.check.Told.{zeroed, is_less, is_equal, risen, ahead_of, item_seen, later_in, against as against_of, judged_in, walked_in};
 ghost use Rattle.bitcask.specs.check.Promises.{Tells};
 
-use crate::entry::{Read, entry_at};
+use crate::entry::{Lengths, entry_at};
 use crate::keydir::{SLOT_WORDS, Slot, count, find, key_of, slot_at};
 use crate::read::value_part;
 use crate::request::{Used, fits};
@@ -86,7 +86,7 @@ fn entry_from(log: &[u8], used: usize, at: usize) -> Option<Seen>
     ensures { result ≡ ahead_of (item_of (entry_at log.now used at) at) }
 {
     match entry_at(log, used, at) {
-        Read::Set { klen, vlen } => {
+        Some(Lengths::Set { klen, vlen }) => {
             let slot = Slot {
                 place: (at + 1) as u32,
                 klen: klen as u32,
@@ -94,7 +94,7 @@ fn entry_from(log: &[u8], used: usize, at: usize) -> Option<Seen>
             };
             Some(Seen { slot, gone: false })
         }
-        Read::Del { klen } => {
+        Some(Lengths::Del { klen }) => {
             let slot = Slot {
                 place: (at + 1) as u32,
                 klen: klen as u32,
@@ -102,7 +102,7 @@ fn entry_from(log: &[u8], used: usize, at: usize) -> Option<Seen>
             };
             Some(Seen { slot, gone: true })
         }
-        Read::Stop => None,
+        None => None,
     }
 }
 

@@ -4,6 +4,6 @@ pub(crate) mod length;
 pub mod read;
 pub mod write;
 
-pub use crate::entry::read::{Read, entry_at};
+pub use crate::entry::read::{Lengths, entry_at};
 pub use crate::entry::write::copy_into;
 pub(crate) use crate::entry::write::{put_del, put_set};

@@ -6,9 +6,9 @@ use mathlib.Core.List.{List}
 use native.Mathlib.Omega.{arith}
 use lib.Dec.{ltb}
 use lib.ListN.{length}
-use Rattle.std.specs.Prelude.{Result, ℕ, Ok, Err, None, Some}
-use Rattle.bitcask.specs.declared.entry.read.Read.{Read}
-use Rattle.bitcask.specs.declared.entry.read.Read.TheVariants.{Set, Del, Stop}
+use Rattle.std.specs.Prelude.{Result, ℕ, Ok, Err, None, Some, Option}
+use Rattle.bitcask.specs.declared.entry.read.Lengths.{Lengths}
+use Rattle.bitcask.specs.declared.entry.read.Lengths.TheVariants.{Set, Del}
 use Rattle.bitcask.specs.entry.Reading.{entry_at}
 use Rattle.bitcask.proofs.entry.ReadingLaws.{entry-within}
 use Rattle.bitcask.specs.declared.keydir.slots.Slot.{Slot}
@@ -66,29 +66,29 @@ module _ (log t : List ℕ) (n : ℕ) (s : Slot) {key : List ℕ} {f : Result �
 
 -- ---- what stands at an offset, by what was read
 
-module _ (log : List ℕ) (used : ℕ) (t : List ℕ) (n at : ℕ) {e : Read} (er : e ≡ entry_at log used at) where
+module _ (log : List ℕ) (used : ℕ) (t : List ℕ) (n at : ℕ) {e : Option Lengths} (er : e ≡ entry_at log used at) where
   module _ (h : at ≤ used) where
-    pub set-within : (k v : ℕ) → e ≡ Set k v → at + 8 + k + v ≤ used
+    pub set-within : (k v : ℕ) → e ≡ (Some (Set k v)) → at + 8 + k + v ≤ used
     set-within k v q = let w = entry-within log used at (sym er ∙ q) h in omega arith
 
-    pub del-within : (k : ℕ) → e ≡ Del k → at + 8 + k ≤ used
+    pub del-within : (k : ℕ) → e ≡ (Some (Del k)) → at + 8 + k ≤ used
     del-within k q = let w = entry-within log used at (sym er ∙ q) h in omega arith
 
-  pub entry-over : e ≡ Stop → TakesEntry log used t n at Over t
-  entry-over q = let p : entry_at log used at ≡ Stop = sym er ∙ q in record { answer = rw p; words = rw p }
+  pub entry-over : e ≡ None → TakesEntry log used t n at Over t
+  entry-over q = let p : entry_at log used at ≡ None = sym er ∙ q in record { answer = rw p; words = rw p }
 
-  pub entry_set : (k v : ℕ) {s : Slot} {r : Took} {t' : List ℕ} → e ≡ Set k v → s ≡ record { place = at + 1; klen = k; vlen = v }
+  pub entry_set : (k v : ℕ) {s : Slot} {r : Took} {t' : List ℕ} → e ≡ (Some (Set k v)) → s ≡ record { place = at + 1; klen = k; vlen = v }
       → Takes log t n (record { slot = s; gone = false }) (at + 8 + k + v) r t' → TakesEntry log used t n at r t'
   entry_set k v q es w =
-      let p : entry_at log used at ≡ Set k v = sym er ∙ q in
+      let p : entry_at log used at ≡ (Some (Set k v)) = sym er ∙ q in
       let m : at + 8 + k + v ≡ at + 1 + 7 + k + v = omega arith in
       let x = rw (es, m) at w in
       record { answer = rw p x.answer; words = rw p x.words }
 
-  pub entry-del : (k : ℕ) {s : Slot} {r : Took} {t' : List ℕ} → e ≡ Del k → s ≡ record { place = at + 1; klen = k; vlen = 0 }
+  pub entry-del : (k : ℕ) {s : Slot} {r : Took} {t' : List ℕ} → e ≡ (Some (Del k)) → s ≡ record { place = at + 1; klen = k; vlen = 0 }
       → Takes log t n (record { slot = s; gone = true }) (at + 8 + k) r t' → TakesEntry log used t n at r t'
   entry-del k q es w =
-      let p : entry_at log used at ≡ Del k = sym er ∙ q in
+      let p : entry_at log used at ≡ (Some (Del k)) = sym er ∙ q in
       let m : at + 8 + k ≡ at + 1 + 7 + k + 0 = omega arith in
       let x = rw (es, m) at w in
       record { answer = rw p x.answer; words = rw p x.words }

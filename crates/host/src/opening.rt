@@ -13,7 +13,7 @@ use crate::answers::told;
 use crate::place::{enter, find, leave};
 use crate::slots::{SLOT_BYTES, WORD_BYTES, clear};
 use bitcask::Used;
-use bitcask::entry::{Read, entry_at};
+use bitcask::entry::{Lengths, entry_at};
 use bitcask::keydir::{Slot, key_of};
 use bitcask::request::fits;
 use keycode::Refusal;
@@ -76,17 +76,16 @@ fn take_entry(log: &[u8], used: usize, table: &mut [u8], count: usize, at: usize
     requires { (at ≤ used) × (used ≤ max_log) × (slot_words * count ≤ length (words_in table.old)) }
     ensures { TakesEntry log.now used (words_in table.old) count at result (words_in table.new) }
 {
-    let e = entry_at(log, used, at);
-    match e {
-        Read::Set { klen, vlen } => {
+    match entry_at(log, used, at) {
+        Some(Lengths::Set { klen, vlen }) => {
             let s = slot_for(at, klen, vlen);
             take_set(log, table, count, s, at + 8 + klen + vlen)
         }
-        Read::Del { klen } => {
+        Some(Lengths::Del { klen }) => {
             let s = slot_for(at, klen, 0);
             take_del(log, table, count, s, at + 8 + klen)
         }
-        Read::Stop => Took::Over,
+        None => Took::Over,
     }
 }
 

@@ -1,5 +1,5 @@
 -- Document 01, 'Bench readings', the rows P1 to P11: closed equations about the definitions of the three layers. Assumes nothing.
-use Rattle.std.specs.Prelude.{ℕ, ◌≡◌, true, false, List, [], ◌∷◌, ◌++◌, length, take, Err}
+use Rattle.std.specs.Prelude.{ℕ, ◌≡◌, true, false, List, [], ◌∷◌, ◌++◌, length, take, Err, Some}
 use Rattle.keycode.specs.Limits.{max_key}
 use Rattle.keycode.specs.Strings.{escape, scanned, fault}
 use Rattle.keycode.specs.Prefix.{prefix_end}
@@ -7,7 +7,7 @@ use Rattle.keycode.specs.declared.strings.Reason.TheVariants.{BadEscape}
 use Rattle.keycode.specs.declared.prefix.End.TheVariants.{Unbounded, Raised}
 use Rattle.keycode.specs.key.Keys.{encode, version}
 use Rattle.bitcask.specs.entry.Reading.{entry_at}
-use Rattle.bitcask.specs.declared.entry.read.Read.TheVariants.{Del}
+use Rattle.bitcask.specs.declared.entry.read.Lengths.TheVariants.{Del}
 use Rattle.bitcask.specs.recovery.Map.{Pair}
 use Rattle.bitcask.specs.recovery.Recover.{items, ends, map_of}
 use Rattle.mvcc.specs.handle.Handles.{sees, handle_of}
@@ -43,7 +43,7 @@ pub record Bench : Type 0 where
   -- P6 then 00000001 ffffffff 61: no key, used 20
   pub p8 : Recovers (p6_log ++ p8_tail) [] 20
   -- 00000001 80000000 61: a tombstone, used 9
-  pub p9 : (entry_at p9_log 9 0 ≡ Del 1) × Recovers p9_log [] 9
+  pub p9 : (entry_at p9_log 9 0 ≡ (Some (Del 1))) × Recovers p9_log [] 9
   -- Version("a", 1)
   pub p10 : encode (version (0x61 ∷ []) 1) ≡ 0x04 ∷ 0x61 ∷ 0x00 ∷ 0x00 ∷ 0x00 ∷ 0x00 ∷ 0x00 ∷ 0x00 ∷ 0x00 ∷ 0x00 ∷ 0x00 ∷ 0x01 ∷ []
   -- version 5, set {3}, read-write: sees 4 and 5, not 3 or 6

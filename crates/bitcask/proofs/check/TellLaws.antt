@@ -12,8 +12,8 @@ use Rattle.std.specs.Prelude.{Result, ℕ, Ok, Err, Option, Some, None}
 use Rattle.std.specs.declared.cmp.Ordering.{Ordering}
 use Rattle.keycode.specs.Order.{compare_bytes}
 use Rattle.keycode.proofs.Basics.{nope}
-use Rattle.bitcask.specs.declared.entry.read.Read.{Read}
-use Rattle.bitcask.specs.declared.entry.read.Read.TheVariants.{Set, Del, Stop}
+use Rattle.bitcask.specs.declared.entry.read.Lengths.{Lengths}
+use Rattle.bitcask.specs.declared.entry.read.Lengths.TheVariants.{Set, Del}
 use Rattle.bitcask.specs.entry.Reading.{entry_at}
 use Rattle.bitcask.specs.declared.keydir.slots.Slot.{Slot}
 use Rattle.bitcask.specs.keydir.Slots.{free_slot, slot_at, slots_of, key_of}
@@ -76,20 +76,20 @@ module _ (log : List ℕ) (ss : List Slot) (i : ℕ) where
 
 -- ---- the entry at an offset
 
-module _ (log : List ℕ) (used at : ℕ) {r : Read} (e : r ≡ entry_at log used at) where
-  pub ahead_set : (k v : ℕ) → r ≡ Set k v → Some (record { slot = record { place = at + 1; klen = k; vlen = v }; gone = false }) ≡ ahead_of (item_of (entry_at log used at) at)
+module _ (log : List ℕ) (used at : ℕ) {r : Option Lengths} (e : r ≡ entry_at log used at) where
+  pub ahead_set : (k v : ℕ) → r ≡ (Some (Set k v)) → Some (record { slot = record { place = at + 1; klen = k; vlen = v }; gone = false }) ≡ ahead_of (item_of (entry_at log used at) at)
   ahead_set k v f = rw (← e, f, add-one)
 
-  pub ahead_del : (k : ℕ) → r ≡ Del k → Some (record { slot = record { place = at + 1; klen = k; vlen = 0 }; gone = true }) ≡ ahead_of (item_of (entry_at log used at) at)
+  pub ahead_del : (k : ℕ) → r ≡ (Some (Del k)) → Some (record { slot = record { place = at + 1; klen = k; vlen = 0 }; gone = true }) ≡ ahead_of (item_of (entry_at log used at) at)
   ahead_del k f = rw (← e, f, add-one)
 
-  pub ahead_stop : r ≡ Stop → None ≡ ahead_of (item_of (entry_at log used at) at)
+  pub ahead_stop : r ≡ None → None ≡ ahead_of (item_of (entry_at log used at) at)
   ahead_stop f = rw (← e, f)
 
-  pub set_near : (k v : ℕ) → r ≡ Set k v → at + 8 + k + v ≤ used
+  pub set_near : (k v : ℕ) → r ≡ (Some (Set k v)) → at + 8 + k + v ≤ used
   set_near k v f = let w = item_stands log used at (record { slot = record { place = at + 1; klen = k; vlen = v }; gone = false }) (rw (← e, f)) in let n = w.near in omega arith
 
-  pub del_near : (k : ℕ) → r ≡ Del k → at + 8 + k ≤ used
+  pub del_near : (k : ℕ) → r ≡ (Some (Del k)) → at + 8 + k ≤ used
   del_near k f = let w = item_stands log used at (record { slot = record { place = at + 1; klen = k; vlen = 0 }; gone = true }) (rw (← e, f)) in let n = w.near in omega arith
 
 seen_is : (o : Option Item) (a : Option Seen) (s : Seen) → a ≡ ahead_of o → a ≡ Some s → o ≡ Some (item_seen s)

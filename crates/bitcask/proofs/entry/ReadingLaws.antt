@@ -15,8 +15,8 @@ use Rattle.std.specs.Prelude.{Option, ℕ, Some, None}
 use Rattle.keycode.specs.Tests.{pick}
 use Rattle.keycode.specs.Number.{num}
 use Rattle.keycode.proofs.NumberLaws.{Bytes as AllBytes, bytes_take, bytes_drop, num-bound}
-use Rattle.bitcask.specs.declared.entry.read.Read.{Read}
-use Rattle.bitcask.specs.declared.entry.read.Read.TheVariants.{Set, Del, Stop}
+use Rattle.bitcask.specs.declared.entry.read.Lengths.{Lengths}
+use Rattle.bitcask.specs.declared.entry.read.Lengths.TheVariants.{Set, Del}
 use Rattle.bitcask.specs.entry.Length.{length_of}
 use Rattle.bitcask.specs.entry.Reading.{word_at, headed, size_read, head_at, entry_at}
 
@@ -40,7 +40,7 @@ module _ (log : List ℕ) (at : ℕ) {part : List ℕ} (e : part ≡ take 4 (dro
 
 -- ---- the cases
 
-both_stop : (b : Bool) → pick b Stop Stop ≡ Stop
+both_stop : (b : Bool) → ◌≡◌ {A = Option Lengths} (pick b None None) None
 both_stop true = refl
 both_stop false = refl
 
@@ -54,11 +54,11 @@ unfolding head_at
 head_size log at = headed_size (word_at log at) (length_of (word_at log (at + 4)))
 
 module _ (log : List ℕ) (used at : ℕ) where
-  pub entry-short : used < at + 8 → entry_at log used at ≡ Stop
+  pub entry-short : used < at + 8 → entry_at log used at ≡ None
   unfolding entry_at
   entry-short h = rw (lt-leb (at + 8) used h)
 
-  pub entry_cut : used < at + size_read (head_at log at) → entry_at log used at ≡ Stop
+  pub entry_cut : used < at + size_read (head_at log at) → entry_at log used at ≡ None
   unfolding entry_at
   entry_cut h = rw (lt-leb (at + size_read (head_at log at)) used h) (both_stop (leb (at + 8) used))
 
@@ -70,36 +70,36 @@ module _ (log : List ℕ) (used at : ℕ) where
 -- ---- the answers of the code, of what it has read
 
 module _ (log : List ℕ) (used at : ℕ) {k : ℕ} (ek : k ≡ word_at log at) where
-  pub read_keyless : used < at + 8 + k → Stop ≡ entry_at log used at
+  pub read_keyless : used < at + 8 + k → None ≡ entry_at log used at
   read_keyless h = sym (entry_cut log used at (omega (arith, head_size log at)))
 
   module _ {w : ℕ} {l : Option ℕ} (ew : w ≡ word_at log (at + 4)) (el : l ≡ length_of w) where
-    read_head : (r : Read) → headed k l ≡ r → r ≡ head_at log at
+    read_head : (r : Option Lengths) → headed k l ≡ r → r ≡ head_at log at
     unfolding head_at
     read_head r e = sym e ∙ rw (el, ew, ek)
 
-    pub read_cut : (n : ℕ) → l ≡ Some n → used < at + 8 + k + n → Stop ≡ entry_at log used at
+    pub read_cut : (n : ℕ) → l ≡ Some n → used < at + 8 + k + n → None ≡ entry_at log used at
     read_cut n e h =
-        let s : 8 + k + n ≡ size_read (head_at log at) = ap size_read (read_head (Set k n) (rw e)) in
+        let s : 8 + k + n ≡ size_read (head_at log at) = ap size_read (read_head (Some (Set k n)) (rw e)) in
         sym (entry_cut log used at (omega arith))
 
-    pub read_set_lem : (n : ℕ) → l ≡ Some n → at + 8 + k + n ≤ used → Set k n ≡ entry_at log used at
+    pub read_set_lem : (n : ℕ) → l ≡ Some n → at + 8 + k + n ≤ used →  (Some (Set k n)) ≡ entry_at log used at
     read_set_lem n e h =
-        let q : Set k n ≡ head_at log at = read_head (Set k n) (rw e) in
+        let q : (Some (Set k n)) ≡ head_at log at = read_head (Some (Set k n)) (rw e) in
         let s : 8 + k + n ≡ size_read (head_at log at) = ap size_read q in
         q ∙ sym (entry_whole log used at (omega arith))
 
-    pub read_del : l ≡ None → at + 8 + k ≤ used → Del k ≡ entry_at log used at
+    pub read_del : l ≡ None → at + 8 + k ≤ used →  (Some (Del k)) ≡ entry_at log used at
     read_del e h =
-        let q : Del k ≡ head_at log at = read_head (Del k) (rw e) in
+        let q : (Some (Del k)) ≡ head_at log at = read_head (Some (Del k)) (rw e) in
         let s : 8 + k ≡ size_read (head_at log at) = ap size_read q in
         q ∙ sym (entry_whole log used at (omega arith))
 
 -- ---- what is whole ends within the used length
 
-module _ (log : List ℕ) (used at : ℕ) {r : Read} (e : entry_at log used at ≡ r) where
+module _ (log : List ℕ) (used at : ℕ) {r : Option Lengths} (e : entry_at log used at ≡ r) where
   -- a whole entry is the one that its header announces
-  pub entry-says : (r ≡ Stop → ⊥) → (r ≡ head_at log at) × (at + size_read r ≤ used)
+  pub entry-says : (r ≡ None → ⊥) → (r ≡ head_at log at) × (at + size_read r ≤ used)
   entry-says f = go (dec_lt used (at + size_read (head_at log at)))
     where
       go : Dec (used < at + size_read (head_at log at)) → (r ≡ head_at log at) × (at + size_read r ≤ used)
@@ -134,10 +134,10 @@ module _ (log log' : List ℕ) (used : ℕ) (agree : take used log ≡ take used
   head_same at h = rw (part_same at 4 (omega arith), part_same (at + 4) 4 (omega arith))
 
   -- what is whole stays the same entry where more bytes count
-  pub entry-again : (used' at : ℕ) → used ≤ used' → (entry_at log used at ≡ Stop → ⊥) → entry_at log' used' at ≡ entry_at log used at
+  pub entry-again : (used' at : ℕ) → used ≤ used' → (entry_at log used at ≡ None → ⊥) → entry_at log' used' at ≡ entry_at log used at
   entry-again used' at m f = go (entry_at log used at) (entry-says log used at refl f)
     where
-      go : (r : Read) → (r ≡ head_at log at) × (at + size_read r ≤ used) → entry_at log' used' at ≡ r
+      go : (r : Option Lengths) → (r ≡ head_at log at) × (at + size_read r ≤ used) → entry_at log' used' at ≡ r
       go r w =
           let n : size_read r ≡ size_read (head_at log at) = ap size_read w.0 in
           let q : head_at log at ≡ head_at log' at = head_same at (omega (arith, head_size log at, w.1)) in

@@ -3,7 +3,7 @@
 use Prim.Native.Nat.{ℕ, ◌+◌, ◌*◌, ◌/◌, ◌%◌, ◌≤◌, ◌<◌}
 use mathlib.Core.Path.{◌≡◌, refl, sym, ap, ◌∙◌, subst}
 use mathlib.Core.Bool.{Bool, true, false}
-use Rattle.std.specs.Prelude.{Some}
+use Rattle.std.specs.Prelude.{Some, Option}
 use mathlib.Core.List.{List, [], ◌∷◌, ◌++◌, append_assoc}
 use native.Mathlib.Omega.{arith}
 use lib.Dec.{leb, eqb}
@@ -16,7 +16,7 @@ use Rattle.keycode.specs.Buffer.{put}
 use Rattle.keycode.proofs.Basics.{nope}
 use Rattle.keycode.proofs.BufferLaws.{length-put}
 use Rattle.bitcask.specs.entry.Entry.{Entry, set, del, entry_key, entry_value, bytes_of, size_of}
-use Rattle.bitcask.specs.declared.entry.read.Read.{Read}
+use Rattle.bitcask.specs.declared.entry.read.Lengths.{Lengths}
 use Rattle.bitcask.specs.entry.Reading.{entry_at, read_of}
 use Rattle.bitcask.proofs.entry.EntryLaws.{length-bytes, entry-back, key_back, value-back}
 use Rattle.bitcask.specs.declared.keydir.slots.Slot.{Slot}
@@ -150,7 +150,7 @@ module _ (log : List ℕ) (used : ℕ) (e : Entry) (small : length log ≤ max_l
   append-value = item_value log' used e ∙ value-back log used e (omega arith) room
 
   append_read : item_of (entry_at log' (used + size_of e) used) used ≡ Some (item_for used e)
-  append_read = ap (λ (r : Read). item_of r used) (entry-back log used e (omega arith) room (used + size_of e) (omega arith)) ∙ item_read used e
+  append_read = ap (λ (r : Option Lengths). item_of r used) (entry-back log used e (omega arith) room (used + size_of e) (omega arith)) ∙ item_read used e
 
   module _ (clean : ends 0 (items log used 0) ≡ used) where
     -- recovery does not cut the entry

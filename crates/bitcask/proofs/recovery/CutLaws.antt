@@ -8,8 +8,8 @@ use native.Mathlib.Decide.{dec_lt}
 use native.Mathlib.Omega.{arith}
 use borrow.Author.Tests.{le-leb, lt-leb}
 use Rattle.keycode.proofs.Basics.{nope}
-use Rattle.bitcask.specs.declared.entry.read.Read.{Read}
-use Rattle.bitcask.specs.declared.entry.read.Read.TheVariants.{Set, Del, Stop}
+use Rattle.bitcask.specs.declared.entry.read.Lengths.{Lengths}
+use Rattle.bitcask.specs.declared.entry.read.Lengths.TheVariants.{Set, Del}
 use Rattle.bitcask.specs.entry.Reading.{entry_at, size_read, head_at}
 use Rattle.bitcask.proofs.entry.ReadingLaws.{entry-says, entry_whole}
 use Rattle.bitcask.specs.recovery.Recover.{Item, item_of, next, items, ends, ending_by, fold, recovered}
@@ -27,14 +27,14 @@ ending-none n (chain_more {i = i} r c) h =
     let f = r.far in
     rw (lt-leb (next i) n (omega arith)) (ending-none n c (omega arith))
 
-item_size : (at : ℕ) (r : Read) (i : Item) → item_of r at ≡ Some i → next i ≡ at + size_read r
-item_size at (Set k v) i e =
+item_size : (at : ℕ) (r : Option Lengths) (i : Item) → item_of r at ≡ Some i → next i ≡ at + size_read r
+item_size at (Some (Set k v)) i e =
     let p : record { slot = record { place = at + 1; klen = k; vlen = v }; gone = false } ≡ i = cc in
     subst (λ (x : Item). next x ≡ at + (8 + k + v)) p (omega arith)
-item_size at (Del k) i e =
+item_size at (Some (Del k)) i e =
     let p : record { slot = record { place = at + 1; klen = k; vlen = 0 }; gone = true } ≡ i = cc in
     subst (λ (x : Item). next x ≡ at + (8 + k)) p (omega arith)
-item_size at Stop i e = nope (cc)
+item_size at None i e = nope (cc)
 
 module _ (log : List ℕ) (n used : ℕ) (fewer : n ≤ used) where
   -- an entry that ends by n is read there too
@@ -43,7 +43,7 @@ module _ (log : List ℕ) (n used : ℕ) (fewer : n ≤ used) where
       let w = entry-says log used at refl (not_stop at (entry_at log used at) i e) in
       let s : size_read (entry_at log used at) ≡ size_read (head_at log at) = ap size_read w.0 in
       let m = item_size at (entry_at log used at) i e in
-      ap (λ (r : Read). item_of r at) (entry_whole log n at (omega arith) ∙ sym w.0) ∙ e
+      ap (λ (r : Option Lengths). item_of r at) (entry_whole log n at (omega arith) ∙ sym w.0) ∙ e
 
   -- and one that does not is not
   item_cut : (at : ℕ) → ((i : Item) → item_of (entry_at log used at) at ≡ Some i → n < next i) → item_of (entry_at log n at) at ≡ None

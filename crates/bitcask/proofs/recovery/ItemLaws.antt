@@ -7,8 +7,8 @@ use mathlib.Core.List.{List, [], ◌∷◌, ◌++◌}
 use native.Mathlib.Omega.{arith}
 use lib.ListN.{take}
 use Rattle.keycode.proofs.Basics.{nope}
-use Rattle.bitcask.specs.declared.entry.read.Read.{Read}
-use Rattle.bitcask.specs.declared.entry.read.Read.TheVariants.{Set, Del, Stop}
+use Rattle.bitcask.specs.declared.entry.read.Lengths.{Lengths}
+use Rattle.bitcask.specs.declared.entry.read.Lengths.TheVariants.{Set, Del}
 use Rattle.bitcask.specs.entry.Reading.{entry_at}
 use Rattle.bitcask.proofs.entry.ReadingLaws.{entry-short, entry-says, entry-again}
 use Rattle.bitcask.specs.recovery.Recover.{Item, item_of, next, and_on, items_of, items, ends}
@@ -19,16 +19,16 @@ pub record Stands (used at : ℕ) (i : Item) : Type 0 where
   pub far : at + 8 ≤ next i
   pub near : next i ≤ used
 
-read_stands : (log : List ℕ) (used at : ℕ) (i : Item) (r : Read) → entry_at log used at ≡ r → item_of r at ≡ Some i → Stands used at i
-read_stands log used at i (Set k v) e q =
+read_stands : (log : List ℕ) (used at : ℕ) (i : Item) (r : Option Lengths) → entry_at log used at ≡ r → item_of r at ≡ Some i → Stands used at i
+read_stands log used at i (Some (Set k v)) e q =
     let w = entry-says log used at e (λ z. nope (cc)) in
     let p : record { slot = record { place = at + 1; klen = k; vlen = v }; gone = false } ≡ i = cc in
     subst (λ (x : Item). Stands used at x) p (record { here = omega arith; far = omega arith; near = omega (arith, w.1) })
-read_stands log used at i (Del k) e q =
+read_stands log used at i (Some (Del k)) e q =
     let w = entry-says log used at e (λ z. nope (cc)) in
     let p : record { slot = record { place = at + 1; klen = k; vlen = 0 }; gone = true } ≡ i = cc in
     subst (λ (x : Item). Stands used at x) p (record { here = omega arith; far = omega arith; near = omega (arith, w.1) })
-read_stands log used at i Stop e q = nope (cc)
+read_stands log used at i None e q = nope (cc)
 
 module _ (log : List ℕ) (used at : ℕ) where
   pub item_stands : (i : Item) → item_of (entry_at log used at) at ≡ Some i → Stands used at i
@@ -108,15 +108,15 @@ ends-append at (i ∷ is) js = ends-append (next i) is js
 
 -- ---- two logs that agree in the first `used` bytes
 
-pub not_stop : (at : ℕ) (r : Read) (i : Item) → item_of r at ≡ Some i → r ≡ Stop → ⊥
-not_stop at (Set k v) i e q = nope (cc)
-not_stop at (Del k) i e q = nope (cc)
-not_stop at Stop i e q = nope (cc)
+pub not_stop : (at : ℕ) (r : Option Lengths) (i : Item) → item_of r at ≡ Some i → r ≡ None → ⊥
+not_stop at (Some (Set k v)) i e q = nope (cc)
+not_stop at (Some (Del k)) i e q = nope (cc)
+not_stop at None i e q = nope (cc)
 
 module _ (log log' : List ℕ) (used used' : ℕ) (agree : take used log ≡ take used log') (more : used ≤ used') where
   -- what is whole stays the same entry where more bytes count
   pub item_again : (at : ℕ) (i : Item) → item_of (entry_at log used at) at ≡ Some i → item_of (entry_at log' used' at) at ≡ Some i
-  item_again at i e = ap (λ (r : Read). item_of r at) (entry-again log log' used agree used' at more (not_stop at (entry_at log used at) i e)) ∙ e
+  item_again at i e = ap (λ (r : Option Lengths). item_of r at) (entry-again log log' used agree used' at more (not_stop at (entry_at log used at) i e)) ∙ e
 
   -- the entries of the longer log are those of the shorter, and those from where it ended
   pub items_extend : (at : ℕ) → items log' used' at ≡ items log used at ++ items log' used' (ends at (items log used at))

@@ -9,8 +9,8 @@ use lib.ListN.{length}
 use borrow.Author.Tests.{eq-eqb, ne_eqb}
 use Rattle.keycode.specs.Limits.{max_log}
 use Rattle.keycode.proofs.Basics.{nope}
-use Rattle.bitcask.specs.declared.entry.read.Read.{Read}
-use Rattle.bitcask.specs.declared.entry.read.Read.TheVariants.{Set, Del, Stop}
+use Rattle.bitcask.specs.declared.entry.read.Lengths.{Lengths}
+use Rattle.bitcask.specs.declared.entry.read.Lengths.TheVariants.{Set, Del}
 use Rattle.bitcask.specs.entry.Reading.{entry_at}
 use Rattle.bitcask.proofs.entry.ReadingLaws.{entry-within}
 use Rattle.bitcask.specs.declared.keydir.slots.Slot.{Slot}
@@ -58,41 +58,41 @@ del_enters log t pd h h' pd' at k p q x =
       exact = λ r w. subst (λ (o : Option (List Slot)). Answers log t pd' end (Next end h') o) (del-step log (length t / slot_words) s r) (answers_next (x r w));
     })
 
-module _ (log : List ℕ) (used : ℕ) (t pd : List ℕ) (h : Held) (at : ℕ) {e : Read} (er : e ≡ entry_at log used at) where
+module _ (log : List ℕ) (used : ℕ) (t pd : List ℕ) (h : Held) (at : ℕ) {e : Option Lengths} (er : e ≡ entry_at log used at) where
   module _ (u : at ≤ used) where
-    pub set-inside : (k v : ℕ) → e ≡ Set k v → at + 8 + k + v ≤ used
+    pub set-inside : (k v : ℕ) → e ≡ (Some (Set k v)) → at + 8 + k + v ≤ used
     set-inside k v q = let w = entry-within log used at (sym er ∙ q) u in omega arith
 
-    pub del-inside : (k : ℕ) → e ≡ Del k → at + 8 + k ≤ used
+    pub del-inside : (k : ℕ) → e ≡ (Some (Del k)) → at + 8 + k ≤ used
     del-inside k q = let w = entry-within log used at (sym er ∙ q) u in omega arith
 
-  pub entry-stop : e ≡ Stop → TakesEntry log used t pd h at Over t pd
+  pub entry-stop : e ≡ None → TakesEntry log used t pd h at Over t pd
   entry-stop q =
-      let p : entry_at log used at ≡ Stop = sym er ∙ q in
-      record { entry = λ i f. nope (cc (ap (λ (x : Read). item_of x at) p)); stop = λ f. (refl, refl, refl) }
+      let p : entry_at log used at ≡ None = sym er ∙ q in
+      record { entry = λ i f. nope (cc (ap (λ (x : Option Lengths). item_of x at) p)); stop = λ f. (refl, refl, refl) }
 
-  pub entry_set : (k v : ℕ) {s : Slot} {o : Took} {t' pd' : List ℕ} → e ≡ Set k v → s ≡ record { place = at + 1; klen = k; vlen = v }
+  pub entry_set : (k v : ℕ) {s : Slot} {o : Took} {t' pd' : List ℕ} → e ≡ (Some (Set k v)) → s ≡ record { place = at + 1; klen = k; vlen = v }
       → Enters log t pd h (record { slot = s; gone = false }) (at + 8 + k + v) o t' pd' → TakesEntry log used t pd h at o t' pd'
   entry_set k v {s} {o} {t'} {pd'} q es w =
-      let p : entry_at log used at ≡ Set k v = sym er ∙ q in
+      let p : entry_at log used at ≡ (Some (Set k v)) = sym er ∙ q in
       let m : at + 8 + k + v ≡ at + 1 + 7 + k + v = omega arith in
       let i₀ : Item = record { slot = record { place = at + 1; klen = k; vlen = v }; gone = false } in
       let x : Enters log t pd h i₀ (next i₀) o t' pd' = rw (es, m) at w in
       record {
-        entry = λ i f. (let y : i₀ ≡ i = cc (ap (λ (z : Read). item_of z at) p) in subst (λ (z : Item). Enters log t pd h z (next z) o t' pd') y x);
-        stop = λ f. nope (cc (ap (λ (z : Read). item_of z at) p));
+        entry = λ i f. (let y : i₀ ≡ i = cc (ap (λ (z : Option Lengths). item_of z at) p) in subst (λ (z : Item). Enters log t pd h z (next z) o t' pd') y x);
+        stop = λ f. nope (cc (ap (λ (z : Option Lengths). item_of z at) p));
       }
 
-  pub entry-del : (k : ℕ) {s : Slot} {h' : Held} {pd' : List ℕ} → slot_words * h.count ≤ length t → e ≡ Del k → s ≡ record { place = at + 1; klen = k; vlen = gone_mark }
+  pub entry-del : (k : ℕ) {s : Slot} {h' : Held} {pd' : List ℕ} → slot_words * h.count ≤ length t → e ≡ (Some (Del k)) → s ≡ record { place = at + 1; klen = k; vlen = gone_mark }
       → Leaves log t pd h s h' pd' → TakesEntry log used t pd h at (Next (at + 8 + k) h') t pd'
   entry-del k {s} {h'} {pd'} tr q es w =
-      let p : entry_at log used at ≡ Del k = sym er ∙ q in
+      let p : entry_at log used at ≡ (Some (Del k)) = sym er ∙ q in
       let i₀ : Item = record { slot = record { place = at + 1; klen = k; vlen = 0 }; gone = true } in
       record {
-        entry = λ i f. (let y : i₀ ≡ i = cc (ap (λ (z : Read). item_of z at) p) in subst (λ (z : Item). Enters log t pd h z (next z) (Next (at + 8 + k) h') t pd') y
+        entry = λ i f. (let y : i₀ ≡ i = cc (ap (λ (z : Option Lengths). item_of z at) p) in subst (λ (z : Item). Enters log t pd h z (next z) (Next (at + 8 + k) h') t pd') y
             (del_enters log t pd h h' pd' at k (rw w.count tr) w.within (λ r v. subst (λ (x : List ℕ). Holds log t pd' h' (cut_at (place_in log x r) r)) (ap
             (key_of log) es ∙ key_marked log (at + 1) k gone_mark 0) (w.exact r v))));
-        stop = λ f. nope (cc (ap (λ (z : Read). item_of z at) p));
+        stop = λ f. nope (cc (ap (λ (z : Option Lengths). item_of z at) p));
       }
 
 -- ---- what an answer says

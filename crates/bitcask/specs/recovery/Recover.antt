@@ -3,8 +3,8 @@
 -- run out of. `run` is the same with room for so many slots, which only the opening knows. Assumes nothing.
 use Rattle.std.specs.Prelude.{ℕ, zero, suc, ◌+◌, ◌-◌, Bool, true, false, List, [], ◌∷◌, leb, ltb, length, Result, Ok, Err, Option, None, Some}
 use Rattle.keycode.specs.Tests.{pick}
-use Rattle.bitcask.specs.declared.entry.read.Read.{Read}
-use Rattle.bitcask.specs.declared.entry.read.Read.TheVariants.{Set, Del, Stop}
+use Rattle.bitcask.specs.declared.entry.read.Lengths.{Lengths}
+use Rattle.bitcask.specs.declared.entry.read.Lengths.TheVariants.{Set, Del}
 use Rattle.bitcask.specs.entry.Entry.{Entry, set, del}
 use Rattle.bitcask.specs.entry.Reading.{entry_at}
 use Rattle.bitcask.specs.declared.keydir.slots.Slot.{Slot}
@@ -19,10 +19,10 @@ pub record Item : Type 0 where
   pub slot : Slot
   pub gone : Bool
 
-abbrev pub item_of : Read → ℕ → Option Item
-item_of (Set k v) at = Some (record { slot = record { place = at + 1; klen = k; vlen = v }; gone = false })
-item_of (Del k) at = Some (record { slot = record { place = at + 1; klen = k; vlen = 0 }; gone = true })
-item_of Stop at = None
+abbrev pub item_of : Option Lengths → ℕ → Option Item
+item_of (Some (Set k v)) at = Some (record { slot = record { place = at + 1; klen = k; vlen = v }; gone = false })
+item_of (Some (Del k)) at = Some (record { slot = record { place = at + 1; klen = k; vlen = 0 }; gone = true })
+item_of None at = None
 
 -- the offset past an entry
 abbrev pub next : Item → ℕ

@@ -8,10 +8,9 @@ use keycode::parts::clip;
 
 // A whole entry with a value, a whole tombstone, or neither: the used length, or an entry that runs past it.
 #[derive(Clone, Copy)]
-pub enum Read {
+pub enum Lengths {
     Set { klen: usize, vlen: usize },
     Del { klen: usize },
-    Stop,
 }
 
 // The number of the four bytes from index at on.
@@ -21,27 +20,27 @@ fn word_at(log: &[u8], at: usize) -> u32
     get_number(clip(log, at, 4)) as u32
 }
 
-pub fn entry_at(log: &[u8], used: usize, at: usize) -> Read
+pub fn entry_at(log: &[u8], used: usize, at: usize) -> Option<Lengths>
     requires { at ≤ used }
     ensures { result ≡ entry_at log.now used at }
 {
     let left = used - at;
     if left < 8 {
-        return Read::Stop;
+        return None;
     }
     let room = left - 8;
     let klen = word_at(log, at) as usize;
     if room < klen {
-        return Read::Stop;
+        return None;
     }
     match value_len(word_at(log, at + 4)) {
         Some(vlen) => {
             if room - klen < vlen {
-                Read::Stop
+                None
             } else {
-                Read::Set { klen, vlen }
+                Some(Lengths::Set { klen, vlen })
             }
         }
-        None => Read::Del { klen },
+        None => Some(Lengths::Del { klen }),
     }
 }

@@ -7,7 +7,7 @@ ghost use Rattle.bitcask.specs.merging.Merge.{gone_mark};
 ghost use Rattle.bitcask.specs.recovery.Waiting.{max_waiting};
 ghost use Rattle.bitcask.specs.recovery.Passing.{TakesEntry, Passes};
 
-use crate::entry::{Read, entry_at};
+use crate::entry::{Lengths, entry_at};
 use crate::keydir::{SLOT_WORDS, Slot, clear};
 use crate::merging::GONE;
 use crate::recovery::waiting::{Held, MAX_WAITING, Took, make_room, settle, take_del, take_set};
@@ -60,13 +60,12 @@ fn take_entry(
     requires { (at ≤ used) × (used ≤ max_log) × (slot_words * h.count ≤ length table.old) × (slot_words * h.waiting + slot_words ≤ length pend.old) }
     ensures { TakesEntry log.now used table.old pend.old h at result table.new pend.new }
 {
-    let e = entry_at(log, used, at);
-    match e {
-        Read::Set { klen, vlen } => {
+    match entry_at(log, used, at) {
+        Some(Lengths::Set { klen, vlen }) => {
             let s = slot_for(at, klen, vlen);
             take_set(log, table, pend, h, s, at + 8 + klen + vlen)
         }
-        Read::Del { klen } => {
+        Some(Lengths::Del { klen }) => {
             let s = gone_for(at, klen);
             let held = take_del(log, table, pend, h, s);
             Took::Next {
@@ -74,7 +73,7 @@ fn take_entry(
                 held,
             }
         }
-        Read::Stop => Took::Over,
+        None => Took::Over,
     }
 }
 

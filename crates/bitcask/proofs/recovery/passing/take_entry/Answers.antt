@@ -1,5 +1,7 @@
 -- `recovery::passing::take_entry` meets its contract. A whole entry lies within the used length, so its offset and lengths fit a slot's
 -- words, and no value is as long as the mark. Assumes nothing.
+use Rattle.std.specs.Prelude.{Some}
+use mathlib.Core.Path.{ap, ◌∙◌}
 use Prim.Native.Nat.{◌+◌}
 use native.Mathlib.Omega.{arith}
 use Rattle.bitcask.proofs.recovery.TakeLaws.{set-inside, del-inside, not_gone, is_marked, entry-stop, entry_set, entry-del}
@@ -11,8 +13,8 @@ slot_for-s-requires c =
     omega (
       arith,
       c.requires.1,
-      set-inside a.log.now a.used a.table.now a.pend.now a.h a.at c.entry_at-e.ensures
-          c.requires.0 _ _ c.in-Set.is,
+      set-inside a.log.now a.used a.table.now a.pend.now a.h a.at c.entry_at.ensures
+          c.requires.0 _ _ (c.in-Some-Set.is ∙ ap Some c.in-Some-Set.field-0-is),
     )
 
 pub overflow_add-at : goal.overflow_add-at
@@ -22,37 +24,37 @@ overflow_add-at c =
       arith,
       c.requires.1,
       set-inside a.log.now a.used a.table.now a.pend.now a.h a.at
-          c.entry_at-e.ensures c.requires.0 _ _ c.in-Set.is,
+          c.entry_at.ensures c.requires.0 _ _ (c.in-Some-Set.is ∙ ap Some c.in-Some-Set.field-0-is),
     )
 
-pub overflow_add-at-in-Set : goal.overflow_add-at-in-Set
-overflow_add-at-in-Set c =
+pub overflow_add-at-in-Some-Set : goal.overflow_add-at-in-Some-Set
+overflow_add-at-in-Some-Set c =
     let a = c.args in
     omega (
       arith,
       c.requires.1,
       set-inside a.log.now a.used a.table.now a.pend.now a.h a.at
-          c.entry_at-e.ensures c.requires.0 _ _ c.in-Set.is,
+          c.entry_at.ensures c.requires.0 _ _ (c.in-Some-Set.is ∙ ap Some c.in-Some-Set.field-0-is),
     )
 
-pub overflow_add-at-in-Set-2 : goal.overflow_add-at-in-Set-2
-overflow_add-at-in-Set-2 c =
+pub overflow_add-at-in-Some-Set-2 : goal.overflow_add-at-in-Some-Set-2
+overflow_add-at-in-Some-Set-2 c =
     let a = c.args in
     omega (
       arith,
       c.requires.1,
       set-inside a.log.now a.used a.table.now a.pend.now a.h a.at
-          c.entry_at-e.ensures c.requires.0 _ _ c.in-Set.is,
+          c.entry_at.ensures c.requires.0 _ _ (c.in-Some-Set.is ∙ ap Some c.in-Some-Set.field-0-is),
     )
 
 pub take_set-requires : goal.take_set-requires
 take_set-requires c =
     let a = c.args in
-    let q = set-inside a.log.now a.used a.table.now a.pend.now a.h a.at c.entry_at-e.ensures
-    c.requires.0 _ _ c.in-Set.is in (
+    let q = set-inside a.log.now a.used a.table.now a.pend.now a.h a.at c.entry_at.ensures
+    c.requires.0 _ _ (c.in-Some-Set.is ∙ ap Some c.in-Some-Set.field-0-is) in (
       c.requires.2,
       c.requires.3,
-      not_gone c.in-Set.vlen (a.at + 1) c.in-Set.klen (omega
+      not_gone c.in-Some-Set.vlen (a.at + 1) c.in-Some-Set.klen (omega
           (arith, c.requires.1)) c.slot_for-s.ensures,
     )
 
@@ -62,14 +64,14 @@ gone_for-s-requires c =
     omega (
       arith,
       c.requires.1,
-      del-inside a.log.now a.used a.table.now a.pend.now a.h a.at c.entry_at-e.ensures
-          c.requires.0 _ c.in-Del.is,
+      del-inside a.log.now a.used a.table.now a.pend.now a.h a.at c.entry_at.ensures
+          c.requires.0 _ (c.in-Some-Del.is ∙ ap Some c.in-Some-Del.field-0-is),
     )
 
 pub take_del-held-requires : goal.take_del-held-requires
 take_del-held-requires c =
     let a = c.args in
-    (c.requires.2, c.requires.3, is_marked (a.at + 1) c.in-Del.klen c.gone_for-s.ensures)
+    (c.requires.2, c.requires.3, is_marked (a.at + 1) c.in-Some-Del.klen c.gone_for-s.ensures)
 
 pub overflow_add-result : goal.overflow_add-result
 overflow_add-result c =
@@ -78,38 +80,38 @@ overflow_add-result c =
       arith,
       c.requires.1,
       del-inside a.log.now a.used a.table.now a.pend.now a.h a.at
-          c.entry_at-e.ensures c.requires.0 _
-          c.in-Del.is,
+          c.entry_at.ensures c.requires.0 _
+          (c.in-Some-Del.is ∙ ap Some c.in-Some-Del.field-0-is),
     )
 
-pub overflow_add-result-in-Del : goal.overflow_add-result-in-Del
-overflow_add-result-in-Del c =
+pub overflow_add-result-in-Some-Del : goal.overflow_add-result-in-Some-Del
+overflow_add-result-in-Some-Del c =
     let a = c.args in
     omega (
       arith,
       c.requires.1,
       del-inside a.log.now a.used a.table.now a.pend.now a.h a.at
-          c.entry_at-e.ensures c.requires.0 _
-          c.in-Del.is,
+          c.entry_at.ensures c.requires.0 _
+          (c.in-Some-Del.is ∙ ap Some c.in-Some-Del.field-0-is),
     )
 
-pub returns-in-Set : goal.returns-in-Set
-returns-in-Set c =
+pub returns-in-Some-Set : goal.returns-in-Some-Set
+returns-in-Some-Set c =
     let a = c.args in
     entry_set a.log.now a.used a.table.now a.pend.now a.h a.at
-    c.entry_at-e.ensures _ _
-    c.in-Set.is
+    c.entry_at.ensures _ _
+    (c.in-Some-Set.is ∙ ap Some c.in-Some-Set.field-0-is)
     c.slot_for-s.ensures c.take_set.ensures
 
-pub returns-in-Del : goal.returns-in-Del
-returns-in-Del c =
+pub returns-in-Some-Del : goal.returns-in-Some-Del
+returns-in-Some-Del c =
     let a = c.args in
     entry-del a.log.now a.used a.table.now a.pend.now a.h a.at
-    c.entry_at-e.ensures _ c.requires.2
-    c.in-Del.is c.gone_for-s.ensures
+    c.entry_at.ensures _ c.requires.2
+    (c.in-Some-Del.is ∙ ap Some c.in-Some-Del.field-0-is) c.gone_for-s.ensures
     c.take_del-held.ensures
 
-pub returns-in-Stop : goal.returns-in-Stop
-returns-in-Stop c =
+pub returns-in-None : goal.returns-in-None
+returns-in-None c =
     let a = c.args in
-    entry-stop a.log.now a.used a.table.now a.pend.now a.h a.at c.entry_at-e.ensures c.in-Stop.is
+    entry-stop a.log.now a.used a.table.now a.pend.now a.h a.at c.entry_at.ensures c.in-None.is
