@@ -15,3 +15,4 @@ pub mod ExtendLaws
 pub mod LeftLaws
 pub mod PairLaws
 pub mod StayLaws
+pub mod ViewLaws

@@ -9,3 +9,4 @@ pub mod Endings
 pub mod Prefixes
 pub mod Extends
 pub mod Judging
+pub mod Views

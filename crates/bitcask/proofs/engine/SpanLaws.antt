@@ -23,13 +23,9 @@ use Rattle.bitcask.specs.engine.Endings.{tombstones, room_tombs}
 -- ---- how many
 
 module _ (p q : Spot) (rs : List Row) where
-  pub width_none : q.number ≤ p.number → 0 ≡ rank q rs - rank p rs
+  pub width_is : q.number - p.number ≡ rank q rs - rank p rs
   unfolding rank
-  width_none h = omega arith
-
-  pub width_some : q.number - p.number ≡ rank q rs - rank p rs
-  unfolding rank
-  width_some = refl
+  width_is = refl
 
   pub width_rows : rank q rs ≤ length rs → length (between p q rs) ≡ rank q rs - rank p rs
   unfolding between rows_from

@@ -140,8 +140,5 @@ module _ (log t : List ℕ) (m : Mark) (p : Spot) (h : Held log t m) (k : rank p
           value_place_is =
               ((λ j. record { at = ea j + 7 + length (er j); len = length (ev j) }) ∙ sym (ap value_place row_is), omega (arith, key-short, value-short, h.small))
 
-      pub offset_none : a ≡ 0 → 0 ≡ offset_of (row_at p (rows log t m))
-      offset_none e = rw row_is (omega arith)
-
-      pub offset_is : a - 1 ≡ offset_of (row_at p (rows log t m))
-      offset_is = rw row_is (omega arith)
+      pub offset_is : {n : ℕ} → n ≡ a - 1 → n ≡ offset_of (row_at p (rows log t m))
+      offset_is e = rw row_is (omega arith)

@@ -16,7 +16,6 @@ use Rattle.bitcask.specs.read.Ranks.{admits_low, admits_high}
 use Rattle.bitcask.specs.declared.engine.mark.Mark.{Mark}
 use Rattle.bitcask.specs.declared.engine.spot.Spot.{Spot}
 use Rattle.bitcask.specs.engine.Rows.{Row, blank, rows}
-use Rattle.bitcask.specs.engine.Marks.{Held}
 use Rattle.bitcask.specs.engine.Spots.{rank, row_at, order_in}
 use Rattle.bitcask.specs.engine.Walks.{near_rank, before_in, from_in, down_from}
 use Rattle.bitcask.proofs.engine.RowLaws.{rows-count}
@@ -33,10 +32,9 @@ module _ (log t : List ℕ) (m : Mark) (p : Spot) where
     before-none e = rw e
 
     module _ (h : p.number ≡ 0 → ⊥) where
-      pub before-within : Held log t m → rank p (rows log t m) ≤ length (rows log t m)
-          → (Held log t m) × (rank (record { number = p.number - 1 }) (rows log t m) < length (rows log t m))
+      pub before-within : rank p (rows log t m) ≤ length (rows log t m) → rank (record { number = p.number - 1 }) (rows log t m) < length (rows log t m)
       unfolding rank
-      before-within g k = (g, omega arith)
+      before-within k = omega arith
 
       module _ {k : List ℕ} (ek : k ≡ (row_at (record { number = p.number - 1 }) (rows log t m)).key) {o : Ordering} (eo : o ≡ compare_bytes k low) {b : Bool} (eb : b ≡ admits_low lower o) where
         here : before_in lower low (rows log t m) (rank p (rows log t m)) ≡ pick b (Some (p.number - 1)) None
@@ -56,9 +54,9 @@ module _ (log t : List ℕ) (m : Mark) (p : Spot) where
     from-none h = rw (le-ltb p.number (length (rows log t m)) (omega (arith, rows-count log t m)))
 
     module _ (h : p.number < m.count) where
-      pub from-within : Held log t m → (Held log t m) × (rank p (rows log t m) < length (rows log t m))
+      pub from-within : rank p (rows log t m) < length (rows log t m)
       unfolding rank
-      from-within g = (g, omega (arith, rows-count log t m))
+      from-within = omega (arith, rows-count log t m)
 
       module _ {k : List ℕ} (ek : k ≡ (row_at p (rows log t m)).key) {o : Ordering} (eo : o ≡ compare_bytes k high) {b : Bool} (eb : b ≡ admits_high upper o) where
         there : from_in upper high (rows log t m) (rank p (rows log t m)) ≡ pick b (Some p.number) None

@@ -10,17 +10,11 @@ ghost use Rattle.bitcask.specs.engine.Endings.{tombed, tombed_all, span_slots, e
 
 use crate::engine::change::moved;
 use crate::engine::mark::Mark;
+use crate::engine::row::wide;
 use crate::engine::span::Span;
 use crate::engine::spot::Spot;
 use crate::engine::tomb::tomb_of;
 use crate::keydir::{Slot, remove_span, slot_at};
-
-// A word as an index; its bound is what the sums below rest on.
-fn wide(x: u32) -> usize
-    ensures { (result ≡ x) × (result < 4294967296) }
-{
-    x as usize
-}
 
 // The tombstone of a slot's key at `at`; gives the end behind it. Where the key does not lie in the entries, or a tombstone has no room,
 // nothing is laid: that is so on tables alone that were altered by hand.
@@ -47,10 +41,8 @@ fn lay_tombs(log: &mut [u8], table: &[u32], mark: Mark, from: usize, to: usize) 
         ≡ tombed_all (record { log = log.old; used = mark.used.len }) (span_slots from to (slots_of mark.count table.now)) }
 {
     let mut at = mark.used.len;
-    let mut i = from;
-    while i < to {
+    for i in from..to {
         at = tomb_at(log, at, slot_at(table, i));
-        i += 1;
     }
     at
 }

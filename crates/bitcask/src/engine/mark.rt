@@ -1,7 +1,7 @@
-// The way in: the one test of a request's sizes, and what every call below takes and gives back by value from then on.
-ghost use Rattle.std.specs.Prelude.{◌≡◌};
-ghost use Rattle.bitcask.specs.engine.Marks.{entered_by};
+// The way in: the one test of a request's sizes. It gives the view that every call below reads from; the calls that write take its mark.
+ghost use Rattle.bitcask.specs.engine.Views.{Enters};
 
+use crate::engine::view::View;
 use crate::keydir::count;
 use crate::request::{Used, fits};
 use keycode::Refusal;
@@ -13,14 +13,16 @@ pub struct Mark {
     pub count: usize,
 }
 
-// 13 where the sizes are not those of a store.
-pub fn enter(log: &[u8], used: Used, table: &[u32]) -> Result<Mark, Refusal>
-    ensures { result ≡ entered_by log.now used table.now }
+// Err: 13, where the sizes are not those of a store.
+pub fn enter<'a>(log: &'a [u8], used: Used, table: &'a [u32]) -> Result<View<'a>, Refusal>
+    ensures { Enters log.now used table.now result }
 {
-    let good = fits(log.len(), used.len, table.len());
-    if !good {
+    if !fits(log.len(), used.len, table.len()) {
         return Err(Refusal::BadRequest);
     }
-    let n = count(table);
-    Ok(Mark { used, count: n })
+    let mark = Mark {
+        used,
+        count: count(table),
+    };
+    Ok(View { log, table, mark })
 }

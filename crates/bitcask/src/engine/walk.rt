@@ -1,15 +1,13 @@
 // Walks from a place, one row at a time, as far as a bound admits keys: one search finds where to start, and no second one the end.
 ghost use Rattle.std.specs.Prelude.{◌≡◌, ◌≤◌, length};
 ghost use Rattle.bitcask.specs.read.Ranks.{admits_low as admits_low_by, admits_high as admits_high_by};
-ghost use Rattle.bitcask.specs.engine.Marks.{Held};
-ghost use Rattle.bitcask.specs.engine.Rows.{rows};
+ghost use Rattle.bitcask.specs.engine.Views.{shown};
 ghost use Rattle.bitcask.specs.engine.Spots.{rank};
 ghost use Rattle.bitcask.specs.engine.Walks.{near_rank, before_in, from_in};
 
 use crate::answers::Bound;
-use crate::engine::mark::Mark;
-use crate::engine::row::key_at;
 use crate::engine::spot::Spot;
+use crate::engine::view::View;
 use keycode::compare;
 use std::cmp::Ordering;
 
@@ -17,16 +15,8 @@ fn admits_low(bound: Bound, o: Ordering) -> bool
     ensures { result ≡ admits_low_by bound o }
 {
     match bound {
-        Bound::Included => match o {
-            Ordering::Less => false,
-            Ordering::Equal => true,
-            Ordering::Greater => true,
-        },
-        Bound::Excluded => match o {
-            Ordering::Less => false,
-            Ordering::Equal => false,
-            Ordering::Greater => true,
-        },
+        Bound::Included => o.is_ge(),
+        Bound::Excluded => o.is_gt(),
         Bound::Unbounded => true,
     }
 }
@@ -35,65 +25,42 @@ fn admits_high(bound: Bound, o: Ordering) -> bool
     ensures { result ≡ admits_high_by bound o }
 {
     match bound {
-        Bound::Included => match o {
-            Ordering::Less => true,
-            Ordering::Equal => true,
-            Ordering::Greater => false,
-        },
-        Bound::Excluded => match o {
-            Ordering::Less => true,
-            Ordering::Equal => false,
-            Ordering::Greater => false,
-        },
+        Bound::Included => o.is_le(),
+        Bound::Excluded => o.is_lt(),
         Bound::Unbounded => true,
     }
 }
 
-// The row before a place, where a lower bound admits it.
-pub fn row_before(
-    log: &[u8],
-    table: &[u32],
-    mark: Mark,
-    spot: Spot,
-    lower: Bound,
-    low: &[u8],
-) -> Option<Spot>
-    requires { (Held log.now table.now mark) × (rank spot (rows log.now table.now mark) ≤ length (rows log.now table.now mark)) }
-    ensures { near_rank result (rows log.now table.now mark)
-        ≡ before_in lower low.now (rows log.now table.now mark) (rank spot (rows log.now table.now mark)) }
-{
-    if spot.number == 0 {
-        return None;
+impl View<'_> {
+    // The row before a place, where a lower bound admits it.
+    pub fn row_before(&self, spot: Spot, lower: Bound, low: &[u8]) -> Option<Spot>
+        requires { rank spot (shown self.now) ≤ length (shown self.now) }
+        ensures { near_rank result (shown self.now) ≡ before_in lower low.now (shown self.now) (rank spot (shown self.now)) }
+    {
+        if spot.number == 0 {
+            return None;
+        }
+        let before = Spot {
+            number: spot.number - 1,
+        };
+        let o = compare(self.key_at(before), low);
+        if admits_low(lower, o) {
+            return Some(before);
+        }
+        None
     }
-    let before = Spot {
-        number: spot.number - 1,
-    };
-    let o = compare(key_at(log, table, mark, before), low);
-    if admits_low(lower, o) {
-        return Some(before);
-    }
-    None
-}
 
-// The row at a place, where there is one and an upper bound admits it.
-pub fn row_from(
-    log: &[u8],
-    table: &[u32],
-    mark: Mark,
-    spot: Spot,
-    upper: Bound,
-    high: &[u8],
-) -> Option<Spot>
-    requires { Held log.now table.now mark }
-    ensures { near_rank result (rows log.now table.now mark)
-        ≡ from_in upper high.now (rows log.now table.now mark) (rank spot (rows log.now table.now mark)) }
-{
-    if mark.count <= spot.number {
-        return None;
+    // The row at a place, where there is one and an upper bound admits it.
+    pub fn row_from(&self, spot: Spot, upper: Bound, high: &[u8]) -> Option<Spot>
+        ensures { near_rank result (shown self.now) ≡ from_in upper high.now (shown self.now) (rank spot (shown self.now)) }
+    {
+        if self.mark.count <= spot.number {
+            return None;
+        }
+        let o = compare(self.key_at(spot), high);
+        if admits_high(upper, o) {
+            return Some(spot);
+        }
+        None
     }
-    let o = compare(key_at(log, table, mark, spot), high);
-    if admits_high(upper, o) {
-        return Some(spot);
-    }
-    None
 }

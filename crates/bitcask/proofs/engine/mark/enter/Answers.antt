@@ -1,10 +1,16 @@
 -- `enter`: the sizes, and then the count.
-use Rattle.bitcask.proofs.engine.SpotLaws.{enter_bad, enter_in}
+use mathlib.Core.Path.{refl}
+use Rattle.bitcask.proofs.engine.ViewLaws.{enters_bad, enters_in, mark_held}
 use Rattle.std.proofs.lemmas.Bool.{not_from_true, not_from_false}
 use Rattle.bitcask.proofs.engine.mark.enter.Goals as goal
 
-pub returns-then-not-good : goal.returns-then-not-good
-returns-then-not-good c = let a = c.args in enter_bad a.log.now a.used a.table.now _ c.fits-good.ensures (not_from_false _ c.if-not-good.true)
+pub returns-then-not-fits : goal.returns-then-not-fits
+returns-then-not-fits c = let a = c.args in enters_bad a.log.now a.used a.table.now _ c.fits.ensures (not_from_false _ c.if-not-fits.true)
+
+pub invariant_of-result : goal.invariant_of-result
+invariant_of-result c = record { held = let a = c.args in mark_held a.log.now a.used a.table.now _ c.fits.ensures (not_from_true _ c.if-not-fits.false) _ c.count.ensures }
 
 pub returns : goal.returns
-returns c = let a = c.args in enter_in a.log.now a.used a.table.now _ c.fits-good.ensures (not_from_true _ c.if-not-good.false) _ c.count-n.ensures
+returns c =
+    let a = c.args in
+    enters_in a.log.now a.used a.table.now _ c.fits.ensures (not_from_true _ c.if-not-fits.false) _ c.count.ensures _ (record { log_is = refl; table_is = refl; mark_is = refl })

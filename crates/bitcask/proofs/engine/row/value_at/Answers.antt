@@ -1,9 +1,0 @@
--- `value_at`: the value of the row at a spot.
-use Rattle.bitcask.proofs.engine.SpotLaws.{spot_within, value-is}
-use Rattle.bitcask.proofs.engine.row.value_at.Goals as goal
-
-pub slot_at-requires : goal.slot_at-requires
-slot_at-requires c = let a = c.args in spot_within a.log.now a.table.now a.mark a.spot c.requires.0 c.requires.1
-
-pub returns : goal.returns
-returns c = let a = c.args in value-is a.log.now a.table.now a.mark a.spot c.requires.0 c.requires.1 c.slot_at.ensures c.value_of.ensures

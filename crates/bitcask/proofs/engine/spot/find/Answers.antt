@@ -1,9 +1,0 @@
--- `find`: the place that the table has for a key, as a spot.
-use Rattle.bitcask.proofs.engine.SpotLaws.{find_at, find_absent}
-use Rattle.bitcask.proofs.engine.spot.find.Goals as goal
-
-pub returns-in-Ok : goal.returns-in-Ok
-returns-in-Ok c = let a = c.args in find_at a.log.now a.table.now a.mark a.key.now _ c.find.ensures _ c.in-Ok.is
-
-pub returns-in-Err : goal.returns-in-Err
-returns-in-Err c = let a = c.args in find_absent a.log.now a.table.now a.mark a.key.now _ c.find.ensures _ c.in-Err.is

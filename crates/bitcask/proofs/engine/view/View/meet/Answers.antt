@@ -1,0 +1,8 @@
+-- `meet` compares ranks.
+use mathlib.Core.Path.{refl}
+use Rattle.bitcask.specs.engine.Spots.{rank}
+use Rattle.bitcask.proofs.engine.view.View.meet.Goals as goal
+
+pub returns : goal.returns
+unfolding rank
+returns c = refl

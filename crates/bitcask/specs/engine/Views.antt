@@ -1,0 +1,28 @@
+-- Views of a store that was entered: the rows that one shows, and what entering gives. Assumes nothing.
+use Rattle.keycode.specs.declared.refusal.Refusal.{Refusal}
+use Rattle.std.specs.Prelude.{ℕ, ◌≡◌, List, Result, Ok, Err}
+use Rattle.bitcask.specs.declared.request.Used.{Used}
+use Rattle.bitcask.specs.declared.engine.mark.Mark.{Mark}
+use Rattle.bitcask.specs.declared.engine.view.View.{View}
+use Rattle.bitcask.specs.engine.Marks.{entered_by}
+use Rattle.bitcask.specs.engine.Rows.{Row, rows}
+
+-- the rows that a view shows
+abbrev pub shown : View → List Row
+shown v = rows v.log.now v.table.now v.mark
+
+-- a view of this log and this table, with this mark
+pub record Views (log t : List ℕ) (m : Mark) (v : View) : Type 0 where
+  pub log_is : v.log.now ≡ log
+  pub table_is : v.table.now ≡ t
+  pub mark_is : v.mark ≡ m
+
+-- an answer with its view's mark alone
+abbrev pub marked : Result View Refusal → Result Mark Refusal
+marked (Ok v) = Ok v.mark
+marked (Err r) = Err r
+
+-- what entering answers: the mark, of a view of the very log and table
+pub record Enters (log : List ℕ) (used : Used) (t : List ℕ) (r : Result View Refusal) : Type 0 where
+  pub mark : marked r ≡ entered_by log used t
+  pub view : (v : View) → r ≡ Ok v → Views log t v.mark v

@@ -1,0 +1,14 @@
+// A store that was entered, to read from: its methods, which stand with the places (spot), rows (row), walks (walk), ranges (span) and
+// refusals (judging) that they give, speak of the rows that it shows. That its sizes are sound is a fact that it carries, so that no
+// function asks for it.
+ghost use Rattle.bitcask.specs.engine.Marks.{Held};
+
+use crate::engine::mark::Mark;
+
+#[derive(Clone, Copy)]
+pub struct View<'a> {
+    pub log: &'a [u8],
+    pub table: &'a [u32],
+    pub mark: Mark,
+    pub ghost held: { Held log.now table.now mark },
+}
