@@ -1,10 +1,8 @@
--- Views of a store that was entered: the rows that one shows, and what entering gives. Assumes nothing.
+-- Views of a store that was entered: the rows that one shows, and an answer that gives one. Assumes nothing.
 use Rattle.keycode.specs.declared.refusal.Refusal.{Refusal}
 use Rattle.std.specs.Prelude.{ℕ, ◌≡◌, List, Result, Ok, Err}
-use Rattle.bitcask.specs.declared.request.Used.{Used}
 use Rattle.bitcask.specs.declared.engine.mark.Mark.{Mark}
 use Rattle.bitcask.specs.declared.engine.view.View.{View}
-use Rattle.bitcask.specs.engine.Marks.{entered_by}
 use Rattle.bitcask.specs.engine.Rows.{Row, rows}
 
 -- the rows that a view shows
@@ -22,7 +20,6 @@ abbrev pub marked : Result View Refusal → Result Mark Refusal
 marked (Ok v) = Ok v.mark
 marked (Err r) = Err r
 
--- what entering answers: the mark, of a view of the very log and table
-pub record Enters (log : List ℕ) (used : Used) (t : List ℕ) (r : Result View Refusal) : Type 0 where
-  pub mark : marked r ≡ entered_by log used t
-  pub view : (v : View) → r ≡ Ok v → Views log t v.mark v
+-- an answer whose view, where it gives one, is of this log and this table
+abbrev pub Viewed : List ℕ → List ℕ → Result View Refusal → Type 0
+Viewed log t r = (v : View) → r ≡ Ok v → Views log t v.mark v

@@ -1,5 +1,7 @@
 // The way in: the one test of a request's sizes. It gives the view that every call below reads from; the calls that write take its mark.
-ghost use Rattle.bitcask.specs.engine.Views.{Enters};
+ghost use Rattle.std.specs.Prelude.{◌≡◌};
+ghost use Rattle.bitcask.specs.engine.Marks.{entered_by};
+ghost use Rattle.bitcask.specs.engine.Views.{marked, Viewed};
 
 use crate::engine::view::View;
 use crate::keydir::count;
@@ -15,7 +17,8 @@ pub struct Mark {
 
 // Err: 13, where the sizes are not those of a store.
 pub fn enter<'a>(log: &'a [u8], used: Used, table: &'a [u32]) -> Result<View<'a>, Refusal>
-    ensures { Enters log.now used table.now result }
+    ensures mark { marked result ≡ entered_by log.now used table.now }
+    ensures view { Viewed log.now table.now result }
 {
     if !fits(log.len(), used.len, table.len()) {
         return Err(Refusal::BadRequest);
