@@ -4,8 +4,7 @@ pub mod place;
 pub mod slots;
 pub(crate) mod words;
 
-pub use crate::keydir::place::find;
-pub(crate) use crate::keydir::place::{enter, leave};
+pub(crate) use crate::keydir::place::{enter, find, leave};
 pub use crate::keydir::slots::{SLOT_WORDS, Slot, key_of};
 pub(crate) use crate::keydir::slots::{count, remove_span, slot_at, value_of};
 pub(crate) use crate::keydir::words::clear;

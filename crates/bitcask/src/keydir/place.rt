@@ -16,7 +16,7 @@ fn order_at(log: &[u8], table: &[u32], count: usize, i: usize, key: &[u8]) -> Or
 }
 
 // The place of a key among the first `count` slots, by halving.
-pub fn find(log: &[u8], table: &[u32], count: usize, key: &[u8]) -> Result<usize, usize>
+pub(crate) fn find(log: &[u8], table: &[u32], count: usize, key: &[u8]) -> Result<usize, usize>
     requires { slot_words * count ≤ length table.now }
     ensures { result ≡ place_of log.now key.now (slots_of count table.now) }
 {
