@@ -1,33 +1,29 @@
 // The checks that come first in every transaction call: 13, then 3. The store is entered here, once.
 ghost use Rattle.std.specs.Prelude.{◌≡◌};
-ghost use Rattle.bitcask.specs.engine.Marks.{Held};
+ghost use Rattle.bitcask.specs.engine.Views.{shown, marked, Viewed};
 ghost use Rattle.bitcask.specs.engine.Spots.{has_row};
-ghost use Rattle.bitcask.specs.engine.Rows.{rows};
 ghost use Rattle.mvcc.specs.request.Checks.{active_key, open_by};
 ghost use Rattle.mvcc.specs.admission.Admits.{Admits};
 
 use crate::handle::Handle;
 use bitcask::Used;
-use bitcask::engine::spot::find;
-use bitcask::engine::{Mark, enter};
+use bitcask::engine::{View, enter};
 use keycode::Refusal;
 use keycode::code::active_code;
 
 // Whether a key is in the store.
-pub(crate) fn live(log: &[u8], table: &[u32], mark: Mark, key: &[u8]) -> bool
-    requires { Held log.now table.now mark }
-    ensures { result ≡ has_row key.now (rows log.now table.now mark) }
+pub(crate) fn live(view: &View, key: &[u8]) -> bool
+    ensures { result ≡ has_row key.now (shown view.now) }
 {
-    match find(log, table, mark, key) {
+    match view.find(key) {
         Ok(_) => true,
         Err(_) => false,
     }
 }
 
 // Whether a handle's transaction is open.
-pub(crate) fn open(log: &[u8], table: &[u32], mark: Mark, handle: Handle) -> bool
-    requires { Held log.now table.now mark }
-    ensures { result ≡ open_by handle (has_row (active_key handle) (rows log.now table.now mark)) }
+pub(crate) fn open(view: &View, handle: Handle) -> bool
+    ensures { result ≡ open_by handle (has_row (active_key handle) (shown view.now)) }
 {
     if handle.read_only {
         return true;
@@ -42,22 +38,28 @@ pub(crate) fn open(log: &[u8], table: &[u32], mark: Mark, handle: Handle) -> boo
     let code = active_code(version);
     let bytes = code.bytes;
     let n = code.len;
-    live(log, table, mark, &bytes[..n])
+    live(view, &bytes[..n])
 }
 
 // 13 for the sizes and the handle, then 3.
-pub(crate) fn admit(log: &[u8], used: Used, table: &[u32], handle: Handle) -> Result<Mark, Refusal>
-    ensures { Admits log.now used table.now handle result }
+pub(crate) fn admit<'a>(
+    log: &'a [u8],
+    used: Used,
+    table: &'a [u32],
+    handle: Handle,
+) -> Result<View<'a>, Refusal>
+    ensures mark { Admits log.now used table.now handle (marked result) }
+    ensures view { Viewed log.now table.now result }
 {
     match enter(log, used, table) {
         Err(r) => Err(r),
-        Ok(mark) => {
+        Ok(view) => {
             let sound = handle.sound();
             if !sound {
                 return Err(Refusal::BadRequest);
             }
-            if open(log, table, mark, handle) {
-                Ok(mark)
+            if open(&view, handle) {
+                Ok(view)
             } else {
                 Err(Refusal::NotOpen)
             }

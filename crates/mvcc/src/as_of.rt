@@ -2,8 +2,7 @@
 // Document 01, 'Transactions'.
 ghost use Rattle.std.specs.Prelude.{◌≡◌};
 ghost use Rattle.keycode.specs.key.Keys.{encode, txn_active_snapshot};
-ghost use Rattle.bitcask.specs.engine.Marks.{Held};
-ghost use Rattle.bitcask.specs.engine.Rows.{rows};
+ghost use Rattle.bitcask.specs.engine.Views.{shown};
 ghost use Rattle.bitcask.specs.engine.Spots.{look_row, row_value};
 ghost use Rattle.mvcc.specs.as_of.Answers.{snapshot_read};
 ghost use Rattle.mvcc.specs.as_of.Promises.{BeginsAsOf};
@@ -13,27 +12,24 @@ use crate::handle::Handle;
 use crate::payload::{SetAnswer, SetRead, read_set};
 use crate::snapshot::next_version;
 use bitcask::Used;
-use bitcask::engine::row::value_at;
-use bitcask::engine::spot::find;
-use bitcask::engine::{Mark, enter};
+use bitcask::engine::{View, enter};
 use keycode::Refusal;
 use keycode::code::snapshot_code;
 
 // The handle of a version with its snapshot; an empty set where there is none.
-fn stored(log: &[u8], table: &[u32], mark: Mark, version: u64) -> SetRead
-    requires { Held log.now table.now mark }
-    ensures { result ≡ snapshot_read version (row_value (look_row (encode (txn_active_snapshot version)) (rows log.now table.now mark))) }
+fn stored(view: &View, version: u64) -> SetRead
+    ensures { result ≡ snapshot_read version (row_value (look_row (encode (txn_active_snapshot version)) (shown view.now))) }
 {
     let handle = Handle::fresh(version, true);
     let code = snapshot_code(version);
     let bytes = code.bytes;
     let n = code.len;
-    match find(log, table, mark, &bytes[..n]) {
+    match view.find(&bytes[..n]) {
         Err(_) => SetRead {
             answer: SetAnswer::Fine,
             handle,
         },
-        Ok(p) => read_set(value_at(log, table, mark, p), handle),
+        Ok(p) => read_set(view.value_at(p), handle),
     }
 }
 
@@ -43,13 +39,13 @@ pub fn begin_as_of(log: &[u8], used: Used, table: &[u32], version: u64) -> Begun
 {
     match enter(log, used, table) {
         Err(r) => refused(r),
-        Ok(mark) => match next_version(log, table, mark) {
+        Ok(view) => match next_version(&view) {
             None => refused(Refusal::BadStore),
             Some(next) => {
                 if next <= version {
                     return refused(Refusal::NoSuchVersion);
                 }
-                let read = stored(log, table, mark, version);
+                let read = stored(&view, version);
                 let answer = read.answer;
                 let handle = read.handle;
                 match answer {

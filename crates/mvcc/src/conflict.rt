@@ -2,18 +2,15 @@
 // versions end, and only the row before is read.
 ghost use Rattle.std.specs.Prelude.{◌≡◌, ◌≤◌, length};
 ghost use Rattle.keycode.specs.Limits.{max_key};
-ghost use Rattle.bitcask.specs.engine.Marks.{Held};
-ghost use Rattle.bitcask.specs.engine.Rows.{rows, pairs};
+ghost use Rattle.bitcask.specs.engine.Views.{shown};
+ghost use Rattle.bitcask.specs.engine.Rows.{pairs};
 ghost use Rattle.mvcc.specs.conflict.Conflicts.{seen_bytes, search_by};
 ghost use Rattle.mvcc.specs.conflict.Conflicts.{unseen_rows};
 
 use crate::handle::Handle;
 use crate::version::version_of;
 use bitcask::Bound;
-use bitcask::engine::Mark;
-use bitcask::engine::row::key_at;
-use bitcask::engine::spot::past;
-use bitcask::engine::walk::row_before;
+use bitcask::engine::View;
 use keycode::Refusal;
 use keycode::code::version_code;
 
@@ -34,32 +31,19 @@ fn met(handle: Handle, key: &[u8]) -> Result<(), Refusal>
 }
 
 // 12 where the record does not decode, 6 where the handle does not see it.
-pub(crate) fn search(
-    log: &[u8],
-    table: &[u32],
-    mark: Mark,
-    handle: Handle,
-    key: &[u8],
-) -> Result<(), Refusal>
-    requires { (Held log.now table.now mark) × (length key.now ≤ max_key) }
-    ensures { result ≡ search_by handle (pairs (unseen_rows handle key.now (rows log.now table.now mark))) }
+pub(crate) fn search(view: &View, handle: Handle, key: &[u8]) -> Result<(), Refusal>
+    requires { length key.now ≤ max_key }
+    ensures { result ≡ search_by handle (pairs (unseen_rows handle key.now (shown view.now))) }
 {
     let high = version_code(key, 0xffff_ffff_ffff_ffff);
     let high_bytes = high.bytes;
     let high_len = high.len;
-    let end = past(log, table, mark, Bound::Included, &high_bytes[..high_len]);
+    let end = view.past(Bound::Included, &high_bytes[..high_len]);
     let low = version_code(key, handle.lowest());
     let low_bytes = low.bytes;
     let low_len = low.len;
-    match row_before(
-        log,
-        table,
-        mark,
-        end,
-        Bound::Included,
-        &low_bytes[..low_len],
-    ) {
+    match view.row_before(end, Bound::Included, &low_bytes[..low_len]) {
         None => Ok(()),
-        Some(p) => met(handle, key_at(log, table, mark, p)),
+        Some(p) => met(handle, view.key_at(p)),
     }
 }

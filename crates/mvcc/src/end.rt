@@ -33,12 +33,13 @@ pub(crate) fn finish(
 {
     match admit(log, used, table, handle) {
         Err(r) => Err(r),
-        Ok(mark) => {
+        Ok(view) => {
             if handle.read_only {
                 return Ok(used);
             }
             let version = handle.version;
-            let span = write_span(log, table, mark, version);
+            let span = write_span(&view, version);
+            let mark = view.mark;
             let code = active_code(version);
             let bytes = code.bytes;
             let n = code.len;

@@ -14,8 +14,8 @@ pub fn begin_read_only(log: &[u8], used: Used, table: &[u32]) -> Begun
 {
     match enter(log, used, table) {
         Err(r) => refused(r),
-        Ok(mark) => {
-            let seen = look_round(log, table, mark, true);
+        Ok(view) => {
+            let seen = look_round(&view, true);
             let tally = seen.tally;
             match tally {
                 None => refused(Refusal::BadStore),

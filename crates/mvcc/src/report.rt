@@ -4,7 +4,6 @@ ghost use Rattle.mvcc.specs.read_only.Promises.{States};
 use crate::snapshot::{next_version, open_span};
 use bitcask::Used;
 use bitcask::engine::enter;
-use bitcask::engine::span::rows_in;
 use keycode::Refusal;
 
 // NextVersion less 1, and the live keys that begin with the tag of TxnActive.
@@ -20,11 +19,11 @@ pub fn status(log: &[u8], used: Used, table: &[u32]) -> Result<Versions, Refusal
 {
     match enter(log, used, table) {
         Err(r) => Err(r),
-        Ok(mark) => match next_version(log, table, mark) {
+        Ok(view) => match next_version(&view) {
             None => Err(Refusal::BadStore),
             Some(next) => {
-                let span = open_span(log, table, mark);
-                let open = rows_in(log, table, mark, span);
+                let span = open_span(&view);
+                let open = view.rows_in(span);
                 Ok(Versions {
                     last: next - 1,
                     open,

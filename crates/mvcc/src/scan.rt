@@ -28,11 +28,9 @@ pub fn scan_step(
 {
     match admit(log, used, table, handle) {
         Err(r) => Err(r),
-        Ok(mark) => {
+        Ok(view) => {
             if keys_fit(lower, low, upper, high, given, last) {
-                step_between(
-                    log, table, mark, handle, lower, low, upper, high, given, last,
-                )
+                step_between(&view, handle, lower, low, upper, high, given, last)
             } else {
                 Err(Refusal::KeyTooLong)
             }

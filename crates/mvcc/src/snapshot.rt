@@ -1,7 +1,6 @@
 // What a begin reads: NextVersion, and the versions open, which are all live keys that begin with the tag of TxnActive.
 ghost use Rattle.std.specs.Prelude.{◌≡◌, ◌≤◌, length};
-ghost use Rattle.bitcask.specs.engine.Marks.{Held};
-ghost use Rattle.bitcask.specs.engine.Rows.{rows};
+ghost use Rattle.bitcask.specs.engine.Views.{shown};
 ghost use Rattle.bitcask.specs.engine.Spots.{rank};
 ghost use Rattle.bitcask.specs.engine.Ranges.{between};
 ghost use Rattle.bitcask.specs.engine.Prefixes.{Prefixes};
@@ -10,10 +9,7 @@ ghost use Rattle.mvcc.specs.snapshot.Active.{next_by, next_in, active_in, keys_i
 
 use crate::handle::Handle;
 use crate::payload::{VERSION_BYTES, read_version};
-use bitcask::engine::row::{key_at, value_at};
-use bitcask::engine::span::prefix_span;
-use bitcask::engine::spot::{find, meet, next};
-use bitcask::engine::{Mark, Span};
+use bitcask::engine::{Span, View};
 use keycode::code::next_version_code;
 use keycode::number::get_number;
 use keycode::parts::clip;
@@ -44,16 +40,15 @@ fn positive(read: Option<u64>) -> Option<u64>
 }
 
 // The next version; a missing record means 1.
-pub(crate) fn next_version(log: &[u8], table: &[u32], mark: Mark) -> Option<u64>
-    requires { Held log.now table.now mark }
-    ensures { result ≡ next_in (rows log.now table.now mark) }
+pub(crate) fn next_version(view: &View) -> Option<u64>
+    ensures { result ≡ next_in (shown view.now) }
 {
     let code = next_version_code();
     let bytes = code.bytes;
     let n = code.len;
-    match find(log, table, mark, &bytes[..n]) {
+    match view.find(&bytes[..n]) {
         Err(_) => Some(1),
-        Ok(p) => positive(read_version(value_at(log, table, mark, p))),
+        Ok(p) => positive(read_version(view.value_at(p))),
     }
 }
 
@@ -78,31 +73,30 @@ fn bad_seen() -> Seen
 }
 
 // The rows of the open versions.
-pub(crate) fn open_span(log: &[u8], table: &[u32], mark: Mark) -> Span
-    requires { Held log.now table.now mark }
-    ensures { Prefixes (rows log.now table.now mark) active_prefix result }
+pub(crate) fn open_span(view: &View) -> Span
+    ensures { Prefixes (shown view.now) active_prefix result }
 {
     let tag = [ACTIVE_TAG; 1];
-    prefix_span(log, table, mark, &tag)
+    view.prefix_span(&tag)
 }
 
 // The versions of a span's rows into a handle. All are looked at, however many it has room for.
-fn gather(log: &[u8], table: &[u32], mark: Mark, span: Span, start: Handle) -> Seen
-    requires { (Held log.now table.now mark) × (rank span.to (rows log.now table.now mark) ≤ length (rows log.now table.now mark)) }
-    ensures { result ≡ seen_from 0 start (versions_in (keys_in (between span.from span.to (rows log.now table.now mark)))) }
+fn gather(view: &View, span: Span, start: Handle) -> Seen
+    requires { rank span.to (shown view.now) ≤ length (shown view.now) }
+    ensures { result ≡ seen_from 0 start (versions_in (keys_in (between span.from span.to (shown view.now)))) }
 {
     let to = span.to;
     let mut at = span.from;
     let mut handle = start;
     let mut n = 0;
     loop {
-        if meet(log, table, mark, at, to) {
+        if view.meet(at, to) {
             return Seen {
                 tally: Some(n),
                 handle,
             };
         }
-        match version_in(key_at(log, table, mark, at)) {
+        match version_in(view.key_at(at)) {
             None => {
                 return bad_seen();
             }
@@ -111,27 +105,25 @@ fn gather(log: &[u8], table: &[u32], mark: Mark, span: Span, start: Handle) -> S
             }
         }
         n += 1;
-        at = next(log, table, mark, at);
+        at = view.next(at);
     }
 }
 
 // The open versions into a handle.
-fn actives(log: &[u8], table: &[u32], mark: Mark, start: Handle) -> Seen
-    requires { Held log.now table.now mark }
-    ensures { result ≡ seen_from 0 start (versions_in (keys_in (active_rows (rows log.now table.now mark)))) }
+fn actives(view: &View, start: Handle) -> Seen
+    ensures { result ≡ seen_from 0 start (versions_in (keys_in (active_rows (shown view.now)))) }
 {
-    let span = open_span(log, table, mark);
-    gather(log, table, mark, span, start)
+    let span = open_span(view);
+    gather(view, span, start)
 }
 
 // The handle of NextVersion with the versions open.
-pub(crate) fn look_round(log: &[u8], table: &[u32], mark: Mark, read_only: bool) -> Seen
-    requires { Held log.now table.now mark }
-    ensures { result ≡ seen_by read_only (next_in (rows log.now table.now mark))
-        (versions_in (keys_in (active_rows (rows log.now table.now mark)))) }
+pub(crate) fn look_round(view: &View, read_only: bool) -> Seen
+    ensures { result ≡ seen_by read_only (next_in (shown view.now))
+        (versions_in (keys_in (active_rows (shown view.now)))) }
 {
-    match next_version(log, table, mark) {
+    match next_version(view) {
         None => bad_seen(),
-        Some(v) => actives(log, table, mark, Handle::fresh(v, read_only)),
+        Some(v) => actives(view, Handle::fresh(v, read_only)),
     }
 }

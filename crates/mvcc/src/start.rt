@@ -92,8 +92,9 @@ pub fn begin(log: &mut [u8], used: Used, table: &mut [u32]) -> Begun
 {
     match enter(log, used, table) {
         Err(r) => refused(r),
-        Ok(mark) => {
-            let seen = look_round(log, table, mark, false);
+        Ok(view) => {
+            let seen = look_round(&view, false);
+            let mark = view.mark;
             let tally = seen.tally;
             let handle = seen.handle;
             match tally {

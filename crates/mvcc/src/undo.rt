@@ -1,6 +1,7 @@
 // The writes of a transaction undone: for each record of a write, the version that it names and the record itself are deleted.
 ghost use Rattle.std.specs.Prelude.{◌≡◌, true, ◌≤◌, length};
 ghost use Rattle.bitcask.specs.engine.Marks.{Held, mark_of};
+ghost use Rattle.bitcask.specs.engine.Views.{shown};
 ghost use Rattle.bitcask.specs.engine.Rows.{rows, pairs};
 ghost use Rattle.bitcask.specs.engine.Spots.{rank};
 ghost use Rattle.bitcask.specs.engine.Ranges.{between};
@@ -13,10 +14,7 @@ use crate::payload::VERSION_BYTES;
 use bitcask::Used;
 use bitcask::append::room_after;
 use bitcask::engine::ending::end_at;
-use bitcask::engine::row::key_at;
-use bitcask::engine::span::{rows_in, span_room};
-use bitcask::engine::spot::{meet, next, stands};
-use bitcask::engine::{Mark, Span, Spot};
+use bitcask::engine::{Mark, Span, Spot, View};
 use bitcask::entry::write::copy_into;
 use keycode::code::Code;
 use keycode::limits::KEY_BYTES;
@@ -47,20 +45,20 @@ fn is_write(bytes: &[u8]) -> bool
 }
 
 // Whether every key of a span is one.
-fn all_writes(log: &[u8], table: &[u32], mark: Mark, span: Span) -> bool
-    requires { (Held log.now table.now mark) × (rank span.to (rows log.now table.now mark) ≤ length (rows log.now table.now mark)) }
-    ensures { result ≡ all_users (pairs (between span.from span.to (rows log.now table.now mark))) }
+fn all_writes(view: &View, span: Span) -> bool
+    requires { rank span.to (shown view.now) ≤ length (shown view.now) }
+    ensures { result ≡ all_users (pairs (between span.from span.to (shown view.now))) }
 {
     let to = span.to;
     let mut at = span.from;
     loop {
-        if meet(log, table, mark, at, to) {
+        if view.meet(at, to) {
             return true;
         }
-        if !is_write(key_at(log, table, mark, at)) {
+        if !is_write(view.key_at(at)) {
             return false;
         }
-        at = next(log, table, mark, at);
+        at = view.next(at);
     }
 }
 
@@ -82,7 +80,8 @@ fn end_row(log: &mut [u8], table: &mut [u32], mark: Mark, spot: Spot) -> Mark
     ensures { store_of log.new table.new result
         ≡ end_where (store_of log.old table.old mark) (rank spot (rows log.old table.old mark)) }
 {
-    if !stands(log, table, mark, spot) {
+    let view = View { log, table, mark };
+    if !view.stands(spot) {
         return mark;
     }
     end_at(log, table, mark, spot)
@@ -95,10 +94,11 @@ fn undo_row(log: &mut [u8], table: &mut [u32], mark: Mark, spot: Spot, version: 
     ensures { store_of log.new table.new result
         ≡ undo_row (store_of log.old table.old mark) (rank spot (rows log.old table.old mark)) version }
 {
-    if !stands(log, table, mark, spot) {
+    let view = View { log, table, mark };
+    if !view.stands(spot) {
         return mark;
     }
-    let key = key_at(log, table, mark, spot);
+    let key = view.key_at(spot);
     if !is_write(key) {
         return mark;
     }
@@ -145,15 +145,16 @@ pub(crate) fn undo(
     ensures { Undoes log.old table.old mark (between span.from span.to (rows log.old table.old mark)) version
         key.now result log.new table.new }
 {
-    if !all_writes(log, table, mark, span) {
+    let view = View { log, table, mark };
+    if !all_writes(&view, span) {
         return Err(Refusal::BadStore);
     }
-    let once = span_room(log, table, mark, Some(log.len() - mark.used.len), span);
-    let twice = span_room(log, table, mark, once, span);
+    let once = view.span_room(Some(log.len() - mark.used.len), span);
+    let twice = view.span_room(once, span);
     match room_after(twice, key.len(), 0) {
         None => Err(Refusal::LogFull),
         Some(_) => {
-            let n = rows_in(log, table, mark, span);
+            let n = view.rows_in(span);
             let mid = undo_many(log, table, mark, span.from, n, version);
             let last = del_key(log, table, mid, key);
             let used = last.used;

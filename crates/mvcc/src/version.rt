@@ -3,8 +3,7 @@ ghost use Rattle.std.specs.Prelude.{◌≡◌, ◌+◌, ◌^◌, ◌≤◌, ◌<
 ghost use Rattle.keycode.specs.Limits.{max_key};
 ghost use Rattle.keycode.specs.key.Keys.{decode_why, forget};
 ghost use Rattle.bitcask.specs.declared.answers.Bound.TheVariants.{Included};
-ghost use Rattle.bitcask.specs.engine.Marks.{Held};
-ghost use Rattle.bitcask.specs.engine.Rows.{rows};
+ghost use Rattle.bitcask.specs.engine.Views.{shown};
 ghost use Rattle.bitcask.specs.engine.Spots.{rank, row_at};
 ghost use Rattle.bitcask.specs.engine.Walks.{down_from};
 ghost use Rattle.mvcc.specs.version.Seen.{label_by, version_of, behind_part, string_part, row_says, seen_as, seen_row, record_row, last_rows};
@@ -12,9 +11,7 @@ ghost use Rattle.mvcc.specs.version.Seen.{label_by, version_of, behind_part, str
 use crate::handle::Handle;
 use crate::payload::{ValueRead, read_value};
 use bitcask::Bound;
-use bitcask::engine::row::{key_at, key_place, value_at, value_place};
-use bitcask::engine::walk::row_before;
-use bitcask::engine::{Mark, Spot};
+use bitcask::engine::{Spot, View};
 use keycode::{Key, Part, decode};
 
 // Hidden goes on to the record below; the others decide.
@@ -86,75 +83,68 @@ fn string_part(p: Part, len: usize) -> Part
 }
 
 // What the payload at a spot says.
-fn value_says(log: &[u8], table: &[u32], mark: Mark, spot: Spot) -> Seen
-    requires { (Held log.now table.now mark) × (rank spot (rows log.now table.now mark) < length (rows log.now table.now mark)) }
-    ensures { result ≡ row_says (row_at spot (rows log.now table.now mark)) }
+fn value_says(view: &View, spot: Spot) -> Seen
+    requires { rank spot (shown view.now) < length (shown view.now) }
+    ensures { result ≡ row_says (row_at spot (shown view.now)) }
 {
-    match read_value(value_at(log, table, mark, spot)) {
-        ValueRead::Value { skip } => Seen::Value(behind(value_place(log, table, mark, spot), skip)),
+    match read_value(view.value_at(spot)) {
+        ValueRead::Value { skip } => Seen::Value(behind(view.value_place(spot), skip)),
         ValueRead::Gone => Seen::Gone,
         ValueRead::Bad => Seen::Bad,
     }
 }
 
 // What the record at a spot says, whose version is known: its payload is read where the handle sees that.
-fn seen_as(log: &[u8], table: &[u32], mark: Mark, spot: Spot, handle: Handle, version: u64) -> Seen
-    requires { (Held log.now table.now mark) × (rank spot (rows log.now table.now mark) < length (rows log.now table.now mark)) }
-    ensures { result ≡ seen_as handle (row_says (row_at spot (rows log.now table.now mark))) version }
+fn seen_as(view: &View, spot: Spot, handle: Handle, version: u64) -> Seen
+    requires { rank spot (shown view.now) < length (shown view.now) }
+    ensures { result ≡ seen_as handle (row_says (row_at spot (shown view.now))) version }
 {
     if handle.sees(version) {
-        value_says(log, table, mark, spot)
+        value_says(view, spot)
     } else {
         Seen::Hidden
     }
 }
 
 // What the record at a spot says.
-fn seen_at(log: &[u8], table: &[u32], mark: Mark, spot: Spot, handle: Handle) -> Seen
-    requires { (Held log.now table.now mark) × (rank spot (rows log.now table.now mark) < length (rows log.now table.now mark)) }
-    ensures { result ≡ seen_row handle (row_at spot (rows log.now table.now mark)) }
+fn seen_at(view: &View, spot: Spot, handle: Handle) -> Seen
+    requires { rank spot (shown view.now) < length (shown view.now) }
+    ensures { result ≡ seen_row handle (row_at spot (shown view.now)) }
 {
-    match version_of(key_at(log, table, mark, spot)) {
+    match version_of(view.key_at(spot)) {
         None => Seen::Bad,
-        Some(v) => seen_as(log, table, mark, spot, handle, v),
+        Some(v) => seen_as(view, spot, handle, v),
     }
 }
 
 // The same with the place of its user key.
-pub(crate) fn record_at(log: &[u8], table: &[u32], mark: Mark, spot: Spot, handle: Handle) -> Record
-    requires { (Held log.now table.now mark) × (rank spot (rows log.now table.now mark) < length (rows log.now table.now mark)) }
-    ensures { result ≡ record_row handle (row_at spot (rows log.now table.now mark)) }
+pub(crate) fn record_at(view: &View, spot: Spot, handle: Handle) -> Record
+    requires { rank spot (shown view.now) < length (shown view.now) }
+    ensures { result ≡ record_row handle (row_at spot (shown view.now)) }
 {
-    match label_of(key_at(log, table, mark, spot)) {
+    match label_of(view.key_at(spot)) {
         Label::None => Record::Junk,
         Label::Of(p, v) => {
-            let place = key_place(log, table, mark, spot);
+            let place = view.key_place(spot);
             let key = string_part(place, p.len);
-            Record::Good(key, seen_as(log, table, mark, spot, handle, v))
+            Record::Good(key, seen_as(view, spot, handle, v))
         }
     }
 }
 
 // The rows before a place, downward to `low`: the first that decides.
-pub(crate) fn seek(
-    log: &[u8],
-    table: &[u32],
-    mark: Mark,
-    end: Spot,
-    low: &[u8],
-    handle: Handle,
-) -> Seen
-    requires { (Held log.now table.now mark) × (rank end (rows log.now table.now mark) ≤ length (rows log.now table.now mark)) }
-    ensures { result ≡ last_rows handle (down_from Included low.now (rows log.now table.now mark) (rank end (rows log.now table.now mark))) }
+pub(crate) fn seek(view: &View, end: Spot, low: &[u8], handle: Handle) -> Seen
+    requires { rank end (shown view.now) ≤ length (shown view.now) }
+    ensures { result ≡ last_rows handle (down_from Included low.now (shown view.now) (rank end (shown view.now))) }
 {
     let mut at = end;
     loop {
-        match row_before(log, table, mark, at, Bound::Included, low) {
+        match view.row_before(at, Bound::Included, low) {
             None => {
                 return Seen::Hidden;
             }
             Some(p) => {
-                let seen = seen_at(log, table, mark, p, handle);
+                let seen = seen_at(view, p, handle);
                 match seen {
                     Seen::Hidden => {}
                     Seen::Gone => {

@@ -1,16 +1,13 @@
 // A scan's walk over rows in the order of their keys, group by group: a group is the versions of one user key. Its answer is the
 // first user key that has a value for the handle. Part of toydb's storage/mvcc.rs.
 ghost use Rattle.std.specs.Prelude.{◌≡◌};
-ghost use Rattle.bitcask.specs.engine.Marks.{Held};
-ghost use Rattle.bitcask.specs.engine.Rows.{rows};
+ghost use Rattle.bitcask.specs.engine.Views.{shown};
 ghost use Rattle.bitcask.specs.engine.Spots.{rank};
 ghost use Rattle.mvcc.specs.walk.Walks.{same_string, group_answer, later_by, closed_by, spoilt_by, opened_by, within_by, broken_by, next_walk, ended_by, is_over, up_from, step_rows};
 
 use crate::handle::Handle;
 use crate::version::{Record, Seen, record_at};
-use bitcask::engine::spot::next;
-use bitcask::engine::walk::row_from;
-use bitcask::engine::{Mark, Spot};
+use bitcask::engine::{Spot, View};
 use bitcask::{Bound, KeyValue, part};
 use keycode::{Part, Refusal, compare};
 use std::cmp::Ordering;
@@ -158,33 +155,30 @@ fn over(walk: Walk) -> bool
 
 // The rows from a place on, as far as an upper bound admits them or to where the answer is known.
 pub(crate) fn step_from(
-    log: &[u8],
-    table: &[u32],
-    mark: Mark,
+    view: &View,
     from: Spot,
     upper: Bound,
     high: &[u8],
     handle: Handle,
 ) -> Result<KeyValue, Refusal>
-    requires { Held log.now table.now mark }
     ensures { result
-        ≡ step_rows handle log.now (up_from upper high.now (rows log.now table.now mark) (rank from (rows log.now table.now mark))) }
+        ≡ step_rows handle view.now.log.now (up_from upper high.now (shown view.now) (rank from (shown view.now))) }
 {
     let mut walk = Walk::Start;
     let mut at = from;
     loop {
-        match row_from(log, table, mark, at, upper, high) {
+        match view.row_from(at, upper, high) {
             None => {
                 return ended(walk);
             }
             Some(p) => {
-                let row = record_at(log, table, mark, p, handle);
-                walk = next_walk(log, walk, row);
+                let row = record_at(view, p, handle);
+                walk = next_walk(view.log, walk, row);
                 let known = over(walk);
                 if known {
                     return ended(walk);
                 }
-                at = next(log, table, mark, p);
+                at = view.next(p);
             }
         }
     }

@@ -4,6 +4,7 @@ ghost use Rattle.std.specs.Prelude.{◌≡◌, ◌++◌, ◌≤◌, leb, length,
 ghost use Rattle.keycode.specs.Limits.{max_key, max_value};
 ghost use Rattle.mvcc.specs.payload.Payloads.{value_bytes};
 ghost use Rattle.bitcask.specs.engine.Marks.{mark_of, Held};
+ghost use Rattle.bitcask.specs.engine.Views.{marked, Viewed};
 ghost use Rattle.mvcc.specs.write.Writes.{plan};
 ghost use Rattle.mvcc.specs.write.Promises.{Writes};
 ghost use Rattle.mvcc.specs.admission.Admits.{Allows};
@@ -16,30 +17,31 @@ use crate::conflict::search;
 use crate::handle::Handle;
 use crate::payload::{GONE_TAG, VALUE_TAG};
 use bitcask::Used;
-use bitcask::engine::Mark;
+use bitcask::engine::{Mark, View};
 use keycode::Refusal;
 use keycode::code::{version_code, write_code};
 
 // 13, 2, 3, 4, 5. A read-only handle is never refused with 3, so that 2 may be asked after it.
-fn allowed(
-    log: &[u8],
+fn allowed<'a>(
+    log: &'a [u8],
     used: Used,
-    table: &[u32],
+    table: &'a [u32],
     handle: Handle,
     klen: usize,
     vlen: usize,
-) -> Result<Mark, Refusal>
-    ensures { Allows log.now used table.now handle klen vlen result }
+) -> Result<View<'a>, Refusal>
+    ensures mark { Allows log.now used table.now handle klen vlen (marked result) }
+    ensures view { Viewed log.now table.now result }
 {
     match admit(log, used, table, handle) {
         Err(r) => Err(r),
-        Ok(mark) => {
+        Ok(view) => {
             if handle.read_only {
                 return Err(Refusal::ReadOnly);
             }
             match sized(klen, vlen) {
                 Err(r) => Err(r),
-                Ok(()) => Ok(mark),
+                Ok(()) => Ok(view),
             }
         }
     }
@@ -92,9 +94,12 @@ fn write(
 {
     match allowed(log, used, table, handle, key.len(), body.len()) {
         Err(r) => Err(r),
-        Ok(mark) => match search(log, table, mark, handle, key) {
+        Ok(view) => match search(&view, handle, key) {
             Err(r) => Err(r),
-            Ok(()) => laid(log, table, mark, handle.version, key, head, body),
+            Ok(()) => {
+                let mark = view.mark;
+                laid(log, table, mark, handle.version, key, head, body)
+            }
         },
     }
 }

@@ -6,10 +6,8 @@ ghost use Rattle.mvcc.specs.append.Appends.{Appends};
 
 use bitcask::Used;
 use bitcask::append::room_after;
-use bitcask::engine::Mark;
 use bitcask::engine::change::{append_set, wants};
-use bitcask::engine::judging::{judge, room_in};
-use bitcask::engine::spot::find;
+use bitcask::engine::{Mark, View};
 use keycode::Refusal;
 
 pub(crate) fn append_one(
@@ -22,10 +20,11 @@ pub(crate) fn append_one(
     requires { (Held log.old table.old mark) × (mark ≡ mark_of mark.used table.old) }
     ensures { Appends log.old table.old mark (set_entry key.now value.now ∷ []) result log.new table.new }
 {
-    let found = find(log, table, mark, key);
-    let room = room_in(log, table, mark);
+    let view = View { log, table, mark };
+    let found = view.find(key);
+    let room = view.room_in();
     let left = room_after(room, key.len(), value.len());
-    match judge(log, table, mark, left, wants(found)) {
+    match view.judge(left, wants(found)) {
         Err(r) => Err(r),
         Ok(()) => {
             let none = &value[..0];

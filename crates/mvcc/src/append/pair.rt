@@ -9,10 +9,8 @@ ghost use Rattle.mvcc.specs.append.Appends.{Appends};
 
 use bitcask::Used;
 use bitcask::append::room_after;
-use bitcask::engine::Mark;
 use bitcask::engine::change::{append_set, behind, wants};
-use bitcask::engine::judging::{judge, room_in};
-use bitcask::engine::spot::find;
+use bitcask::engine::{Mark, View};
 use keycode::Refusal;
 
 // The first key with its value, then the second, which is greater, with head and body.
@@ -31,12 +29,13 @@ pub(crate) fn append_pair(
     ensures { Appends log.old table.old mark
         (set_entry first.now value.now ∷ set_entry second.now (head.now ++ body.now) ∷ []) result log.new table.new }
 {
-    let a = find(log, table, mark, first);
-    let b = find(log, table, mark, second);
-    let room = room_in(log, table, mark);
+    let view = View { log, table, mark };
+    let a = view.find(first);
+    let b = view.find(second);
+    let room = view.room_in();
     let left = room_after(room, first.len(), value.len());
     let rest = room_after(left, second.len(), head.len() + body.len());
-    match judge(log, table, mark, rest, wants(a) + wants(b)) {
+    match view.judge(rest, wants(a) + wants(b)) {
         Err(r) => Err(r),
         Ok(()) => {
             let none = &value[..0];

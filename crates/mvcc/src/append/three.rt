@@ -8,10 +8,8 @@ ghost use Rattle.mvcc.specs.append.Appends.{Appends};
 
 use bitcask::Used;
 use bitcask::append::room_after;
-use bitcask::engine::Mark;
 use bitcask::engine::change::{append_set, behind, wants};
-use bitcask::engine::judging::{judge, room_in};
-use bitcask::engine::spot::find;
+use bitcask::engine::{Mark, View};
 use keycode::Refusal;
 
 // The third key has no value, and lies between the two others: the first moves its place on, the second, which is greater, does not.
@@ -29,14 +27,15 @@ pub(crate) fn append_three(
     ensures { Appends log.old table.old mark
         (set_entry first.now value.now ∷ set_entry second.now payload.now ∷ set_entry third.now [] ∷ []) result log.new table.new }
 {
-    let a = find(log, table, mark, first);
-    let b = find(log, table, mark, second);
-    let d = find(log, table, mark, third);
-    let room = room_in(log, table, mark);
+    let view = View { log, table, mark };
+    let a = view.find(first);
+    let b = view.find(second);
+    let d = view.find(third);
+    let room = view.room_in();
     let left = room_after(room, first.len(), value.len());
     let rest = room_after(left, second.len(), payload.len());
     let end = room_after(rest, third.len(), 0);
-    match judge(log, table, mark, end, wants(a) + wants(b) + wants(d)) {
+    match view.judge(end, wants(a) + wants(b) + wants(d)) {
         Err(r) => Err(r),
         Ok(()) => {
             let none = &value[..0];

@@ -1,6 +1,7 @@
 // Rows ended and one key more deleted, as a commit does it: 7, then the tombstones.
 ghost use Rattle.std.specs.Prelude.{◌≡◌, ◌≤◌, length};
 ghost use Rattle.bitcask.specs.engine.Marks.{Held, mark_of};
+ghost use Rattle.bitcask.specs.engine.Views.{shown};
 ghost use Rattle.bitcask.specs.engine.Rows.{rows};
 ghost use Rattle.bitcask.specs.engine.Spots.{rank};
 ghost use Rattle.bitcask.specs.engine.Ranges.{between};
@@ -12,19 +13,17 @@ use bitcask::Used;
 use bitcask::append::room_after;
 use bitcask::engine::change::append_del;
 use bitcask::engine::ending::end_span;
-use bitcask::engine::span::{prefix_span, span_room};
-use bitcask::engine::{Mark, Span};
+use bitcask::engine::{Mark, Span, View};
 use keycode::Refusal;
 use keycode::number::put_number;
 
 // The rows of the records of a version's writes.
-pub(crate) fn write_span(log: &[u8], table: &[u32], mark: Mark, version: u64) -> Span
-    requires { Held log.now table.now mark }
-    ensures { Prefixes (rows log.now table.now mark) (write_prefix version) result }
+pub(crate) fn write_span(view: &View, version: u64) -> Span
+    ensures { Prefixes (shown view.now) (write_prefix version) result }
 {
     let mut bytes = [3u8; 9];
     put_number(version, 8, &mut bytes, 1);
-    prefix_span(log, table, mark, &bytes)
+    view.prefix_span(&bytes)
 }
 
 // A key deleted where there is room. The callers ask before, so that there is none on tables alone that were altered by hand.
@@ -54,7 +53,8 @@ pub(crate) fn clear(
     ensures { Clears log.old table.old mark (between span.from span.to (rows log.old table.old mark))
         key.now result log.new table.new }
 {
-    let room = span_room(log, table, mark, Some(log.len() - mark.used.len), span);
+    let view = View { log, table, mark };
+    let room = view.span_room(Some(log.len() - mark.used.len), span);
     match room_after(room, key.len(), 0) {
         None => Err(Refusal::LogFull),
         Some(_) => {

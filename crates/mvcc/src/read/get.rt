@@ -1,8 +1,7 @@
 // Get: the place of the value of the highest version that a handle sees. One search, and then a walk down.
 ghost use Rattle.std.specs.Prelude.{◌≡◌, ◌≤◌, length};
 ghost use Rattle.keycode.specs.Limits.{max_key};
-ghost use Rattle.bitcask.specs.engine.Marks.{Held};
-ghost use Rattle.bitcask.specs.engine.Rows.{rows};
+ghost use Rattle.bitcask.specs.engine.Views.{shown};
 ghost use Rattle.mvcc.specs.version.Seen.{located_seen};
 ghost use Rattle.mvcc.specs.read.Promises.{Gets};
 ghost use Rattle.mvcc.specs.version.Seen.{last_rows, version_rows};
@@ -10,26 +9,25 @@ ghost use Rattle.mvcc.specs.version.Seen.{last_rows, version_rows};
 use crate::admission::admit;
 use crate::handle::Handle;
 use crate::version::{Seen, seek};
-use bitcask::engine::Mark;
-use bitcask::engine::spot::past;
+use bitcask::engine::View;
 use bitcask::{Bound, Used};
 use keycode::code::version_code;
 use keycode::limits::MAX_KEY;
 use keycode::{Part, Refusal};
 
 // What the versions of a key up to the handle's own say.
-fn highest(log: &[u8], table: &[u32], mark: Mark, handle: Handle, key: &[u8]) -> Seen
-    requires { (Held log.now table.now mark) × (length key.now ≤ max_key) }
-    ensures { result ≡ last_rows handle (version_rows key.now handle.version (rows log.now table.now mark)) }
+fn highest(view: &View, handle: Handle, key: &[u8]) -> Seen
+    requires { length key.now ≤ max_key }
+    ensures { result ≡ last_rows handle (version_rows key.now handle.version (shown view.now)) }
 {
     let last = version_code(key, handle.version);
     let high = last.bytes;
     let b = last.len;
-    let end = past(log, table, mark, Bound::Included, &high[..b]);
+    let end = view.past(Bound::Included, &high[..b]);
     let first = version_code(key, 0);
     let low = first.bytes;
     let a = first.len;
-    seek(log, table, mark, end, &low[..a], handle)
+    seek(view, end, &low[..a], handle)
 }
 
 fn located(seen: Seen) -> Result<Part, Refusal>
@@ -54,11 +52,11 @@ pub fn get(
 {
     match admit(log, used, table, handle) {
         Err(r) => Err(r),
-        Ok(mark) => {
+        Ok(view) => {
             if MAX_KEY < key.len() {
                 return Err(Refusal::KeyTooLong);
             }
-            located(highest(log, table, mark, handle, key))
+            located(highest(&view, handle, key))
         }
     }
 }

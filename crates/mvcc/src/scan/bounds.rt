@@ -4,16 +4,14 @@ ghost use Rattle.keycode.specs.Order.{compare_bytes};
 ghost use Rattle.keycode.specs.code.Codes.{Codes};
 ghost use Rattle.bitcask.specs.declared.answers.Bound.TheVariants.{Excluded};
 ghost use Rattle.bitcask.specs.read.Ranks.{admits_low};
-ghost use Rattle.bitcask.specs.engine.Marks.{Held};
-ghost use Rattle.bitcask.specs.engine.Rows.{rows};
+ghost use Rattle.bitcask.specs.engine.Views.{shown};
 ghost use Rattle.bitcask.specs.engine.Spots.{rank};
 ghost use Rattle.mvcc.specs.walk.Walks.{step_rows};
 ghost use Rattle.mvcc.specs.scan.Bounds.{key_fits, last_fits, keys_fit, low_kind, low_bytes, high_kind, high_bytes, start_rank, past_rows, scan_rows};
 
 use crate::handle::Handle;
 use crate::walk::step_from;
-use bitcask::engine::spot::first;
-use bitcask::engine::{Mark, Spot};
+use bitcask::engine::{Spot, View};
 use bitcask::{Bound, KeyValue};
 use keycode::code::{Code, version_code};
 use keycode::limits::KEY_BYTES;
@@ -81,35 +79,25 @@ fn follows(key: &[u8], other: &[u8]) -> bool
 
 // Where a step starts: at the first row that the lower bound admits or, where that comes later, past the versions of the last given key.
 // Which comes later the two keys tell, so that one search will do.
-fn start(
-    log: &[u8],
-    table: &[u32],
-    mark: Mark,
-    lower: Bound,
-    low: &[u8],
-    given: bool,
-    last: &[u8],
-) -> Spot
-    requires { (Held log.now table.now mark) × (last_fits given last.now ≡ true) }
-    ensures { rank result (rows log.now table.now mark) ≡ start_rank lower low.now given last.now (rows log.now table.now mark) }
+fn start(view: &View, lower: Bound, low: &[u8], given: bool, last: &[u8]) -> Spot
+    requires { last_fits given last.now ≡ true }
+    ensures { rank result (shown view.now) ≡ start_rank lower low.now given last.now (shown view.now) }
 {
     if !given {
-        return first(log, table, mark, lower, low);
+        return view.first(lower, low);
     }
     let code = low_code(Bound::Excluded, last);
     let bytes = code.bytes;
     let n = code.len;
     if follows(low, &bytes[..n]) {
-        return first(log, table, mark, lower, low);
+        return view.first(lower, low);
     }
-    first(log, table, mark, Bound::Excluded, &bytes[..n])
+    view.first(Bound::Excluded, &bytes[..n])
 }
 
 // The step over the rows within two bounds of engine keys and past the last given key.
 pub(crate) fn step_past(
-    log: &[u8],
-    table: &[u32],
-    mark: Mark,
+    view: &View,
     handle: Handle,
     lower: Bound,
     low: &[u8],
@@ -118,19 +106,17 @@ pub(crate) fn step_past(
     given: bool,
     last: &[u8],
 ) -> Result<KeyValue, Refusal>
-    requires { (Held log.now table.now mark) × (last_fits given last.now ≡ true) }
+    requires { last_fits given last.now ≡ true }
     ensures { result
-        ≡ step_rows handle log.now (past_rows lower low.now upper high.now given last.now (rows log.now table.now mark)) }
+        ≡ step_rows handle view.now.log.now (past_rows lower low.now upper high.now given last.now (shown view.now)) }
 {
-    let from = start(log, table, mark, lower, low, given, last);
-    step_from(log, table, mark, from, upper, high, handle)
+    let from = start(view, lower, low, given, last);
+    step_from(view, from, upper, high, handle)
 }
 
 // The step over the rows within two bounds of user keys and past the last given key.
 pub(crate) fn step_between(
-    log: &[u8],
-    table: &[u32],
-    mark: Mark,
+    view: &View,
     handle: Handle,
     lower: Bound,
     low: &[u8],
@@ -139,9 +125,9 @@ pub(crate) fn step_between(
     given: bool,
     last: &[u8],
 ) -> Result<KeyValue, Refusal>
-    requires { (Held log.now table.now mark) × (keys_fit lower low.now upper high.now given last.now ≡ true) }
+    requires { keys_fit lower low.now upper high.now given last.now ≡ true }
     ensures { result
-        ≡ step_rows handle log.now (scan_rows lower low.now upper high.now given last.now (rows log.now table.now mark)) }
+        ≡ step_rows handle view.now.log.now (scan_rows lower low.now upper high.now given last.now (shown view.now)) }
 {
     let a = low_code(lower, low);
     let from = a.bytes;
@@ -150,9 +136,7 @@ pub(crate) fn step_between(
     let to = b.bytes;
     let k = b.len;
     step_past(
-        log,
-        table,
-        mark,
+        view,
         handle,
         low_kind(lower),
         &from[..n],

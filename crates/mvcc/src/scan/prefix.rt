@@ -1,8 +1,7 @@
 // The scan step of a transaction, over the user keys that begin with a prefix.
 ghost use Rattle.std.specs.Prelude.{◌≡◌, true, ◌≤◌, length};
 ghost use Rattle.keycode.specs.code.Codes.{key_bytes};
-ghost use Rattle.bitcask.specs.engine.Marks.{Held};
-ghost use Rattle.bitcask.specs.engine.Rows.{rows};
+ghost use Rattle.bitcask.specs.engine.Views.{shown};
 ghost use Rattle.mvcc.specs.walk.Walks.{step_rows};
 ghost use Rattle.mvcc.specs.scan.Bounds.{Uppers, prefix_fits, prefix_rows};
 ghost use Rattle.mvcc.specs.scan.Promises.{ScansPrefix};
@@ -11,7 +10,7 @@ use crate::admission::admit;
 use crate::handle::Handle;
 use crate::scan::bounds::step_past;
 use crate::scan::checks::prefix_fits;
-use bitcask::engine::Mark;
+use bitcask::engine::View;
 use bitcask::entry::write::copy_into;
 use bitcask::{Bound, KeyValue, Used};
 use keycode::code::{Code, prefix_code};
@@ -54,16 +53,14 @@ fn upper_of(prefix: &[u8]) -> Upper
 
 // The step over the rows whose keys begin with the prefix's code and lie past the last given key.
 fn step_begun(
-    log: &[u8],
-    table: &[u32],
-    mark: Mark,
+    view: &View,
     handle: Handle,
     prefix: &[u8],
     given: bool,
     last: &[u8],
 ) -> Result<KeyValue, Refusal>
-    requires { (Held log.now table.now mark) × (prefix_fits prefix.now given last.now ≡ true) }
-    ensures { result ≡ step_rows handle log.now (prefix_rows prefix.now given last.now (rows log.now table.now mark)) }
+    requires { prefix_fits prefix.now given last.now ≡ true }
+    ensures { result ≡ step_rows handle view.now.log.now (prefix_rows prefix.now given last.now (shown view.now)) }
 {
     let code = prefix_code(prefix);
     let low = code.bytes;
@@ -74,9 +71,7 @@ fn step_begun(
     let high = end.bytes;
     let k = end.len;
     step_past(
-        log,
-        table,
-        mark,
+        view,
         handle,
         Bound::Included,
         &low[..n],
@@ -100,9 +95,9 @@ pub fn scan_prefix_step(
 {
     match admit(log, used, table, handle) {
         Err(r) => Err(r),
-        Ok(mark) => {
+        Ok(view) => {
             if prefix_fits(prefix, given, last) {
-                step_begun(log, table, mark, handle, prefix, given, last)
+                step_begun(&view, handle, prefix, given, last)
             } else {
                 Err(Refusal::KeyTooLong)
             }

@@ -3,8 +3,6 @@ ghost use Rattle.mvcc.specs.unversioned.Promises.{GetsUnversioned};
 
 use bitcask::Used;
 use bitcask::engine::enter;
-use bitcask::engine::row::value_place;
-use bitcask::engine::spot::find;
 use keycode::code::unversioned_code;
 use keycode::limits::MAX_KEY;
 use keycode::{Part, Refusal};
@@ -14,15 +12,15 @@ pub fn get_unversioned(log: &[u8], used: Used, table: &[u32], key: &[u8]) -> Res
 {
     match enter(log, used, table) {
         Err(r) => Err(r),
-        Ok(mark) => {
+        Ok(view) => {
             if MAX_KEY < key.len() {
                 return Err(Refusal::KeyTooLong);
             }
             let code = unversioned_code(key);
             let bytes = code.bytes;
             let len = code.len;
-            match find(log, table, mark, &bytes[..len]) {
-                Ok(p) => Ok(value_place(log, table, mark, p)),
+            match view.find(&bytes[..len]) {
+                Ok(p) => Ok(view.value_place(p)),
                 Err(_) => Err(Refusal::Absent),
             }
         }

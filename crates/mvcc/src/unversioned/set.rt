@@ -19,9 +19,10 @@ pub fn set_unversioned(
 {
     match enter(log, used, table) {
         Err(r) => Err(r),
-        Ok(mark) => match sized(key.len(), value.len()) {
+        Ok(view) => match sized(key.len(), value.len()) {
             Err(r) => Err(r),
             Ok(()) => {
+                let mark = view.mark;
                 let code = unversioned_code(key);
                 let bytes = code.bytes;
                 let len = code.len;

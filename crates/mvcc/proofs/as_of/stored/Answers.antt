@@ -1,7 +1,7 @@
 -- `stored` looks the snapshot up.
 use mathlib.Core.Path.{sym}
 use lib.Seq.{length-take-le}
-use Rattle.bitcask.specs.engine.Rows.{rows}
+use Rattle.bitcask.specs.engine.Views.{shown}
 use Rattle.bitcask.proofs.engine.LookLaws.{found_stands}
 use Rattle.mvcc.proofs.as_of.PastLaws.{stored_none, stored_some}
 use native.Mathlib.Omega.{arith}
@@ -14,10 +14,10 @@ pub slice_bounds-find-end : goal.slice_bounds-find-end
 slice_bounds-find-end c = let w = c.snapshot_code-code.ensures in sym (length-take-le _ _ (omega (arith, w.whole, w.within)))
 
 pub value_at-requires : goal.value_at-requires
-value_at-requires c = (c.requires, found_stands _ _ c.find.ensures _ c.in-Ok.is)
+value_at-requires c = (found_stands _ _ c.find.ensures _ c.in-Ok.is)
 
 pub returns-in-Err : goal.returns-in-Err
-returns-in-Err c = let a = c.args in stored_none (rows a.log.now a.table.now a.mark) a.version c.snapshot_code-code.ensures _ c.find.ensures c.fresh-handle.ensures _ c.in-Err.is
+returns-in-Err c = let a = c.args in stored_none (shown a.view.now) a.version c.snapshot_code-code.ensures _ c.find.ensures c.fresh-handle.ensures _ c.in-Err.is
 
 pub returns-in-Ok : goal.returns-in-Ok
-returns-in-Ok c = let a = c.args in stored_some (rows a.log.now a.table.now a.mark) a.version c.snapshot_code-code.ensures _ c.find.ensures c.fresh-handle.ensures _ c.in-Ok.is c.value_at.ensures c.read_set.ensures
+returns-in-Ok c = let a = c.args in stored_some (shown a.view.now) a.version c.snapshot_code-code.ensures _ c.find.ensures c.fresh-handle.ensures _ c.in-Ok.is c.value_at.ensures c.read_set.ensures

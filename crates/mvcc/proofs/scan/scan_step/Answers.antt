@@ -1,21 +1,21 @@
 -- `scan_step_lem`: the checks, and then the walk.
-use mathlib.Core.Path.{sym, ◌∙◌}
+use mathlib.Core.Path.{sym, ap, ◌∙◌}
 use Rattle.bitcask.specs.declared.engine.mark.Mark.{Mark}
 use Rattle.bitcask.specs.engine.Rows.{rows}
+use Rattle.bitcask.specs.engine.Views.{marked}
 use Rattle.mvcc.specs.scan.Bounds.{scan_rows}
-use Rattle.mvcc.proofs.admission.AdmitLaws.{fine_held}
 use Rattle.mvcc.proofs.scan.AgreedLaws.{scan_agrees}
 use Rattle.mvcc.proofs.scan.StepLaws.{scan_refused, scan_long, scan_done}
 use Rattle.mvcc.proofs.scan.scan_step.Goals as goal
 
 pub step_between-requires : goal.step_between-requires
-step_between-requires c = let a = c.args in (fine_held a.log.now a.used a.table.now a.handle c.admit.ensures _ c.in-Ok.is, sym c.keys_fit.ensures ∙ c.if-keys_fit.true)
+step_between-requires c = let a = c.args in (sym c.keys_fit.ensures ∙ c.if-keys_fit.true)
 
 pub returns-in-Err : goal.returns-in-Err
-returns-in-Err c = let a = c.args in scan_refused a.log.now a.used a.table.now a.handle _ _ (λ (m : Mark). scan_rows a.lower a.low.now a.upper a.high.now a.given a.last.now (rows a.log.now a.table.now m)) (scan_agrees a.lower a.low.now a.upper a.high.now a.given a.last.now a.log.now a.table.now) c.admit.ensures _ c.in-Err.is
+returns-in-Err c = let a = c.args in scan_refused a.log.now a.used a.table.now a.handle _ _ (λ (m : Mark). scan_rows a.lower a.low.now a.upper a.high.now a.given a.last.now (rows a.log.now a.table.now m)) (scan_agrees a.lower a.low.now a.upper a.high.now a.given a.last.now a.log.now a.table.now) c.admit.ensures.mark _ (ap marked c.in-Err.is)
 
 pub returns-then-keys_fit : goal.returns-then-keys_fit
-returns-then-keys_fit c = let a = c.args in scan_done a.log.now a.used a.table.now a.handle _ _ (λ (m : Mark). scan_rows a.lower a.low.now a.upper a.high.now a.given a.last.now (rows a.log.now a.table.now m)) (scan_agrees a.lower a.low.now a.upper a.high.now a.given a.last.now a.log.now a.table.now) c.admit.ensures _ c.in-Ok.is c.keys_fit.ensures c.if-keys_fit.true c.step_between.ensures
+returns-then-keys_fit c = let a = c.args in let w = c.admit.ensures.view _ c.in-Ok.is in scan_done a.log.now a.used a.table.now a.handle _ _ (λ (m : Mark). scan_rows a.lower a.low.now a.upper a.high.now a.given a.last.now (rows a.log.now a.table.now m)) (scan_agrees a.lower a.low.now a.upper a.high.now a.given a.last.now a.log.now a.table.now) c.admit.ensures.mark _ (ap marked c.in-Ok.is) c.keys_fit.ensures c.if-keys_fit.true (rw (← w.log_is, ← w.table_is) c.step_between.ensures)
 
 pub returns-else-keys_fit : goal.returns-else-keys_fit
-returns-else-keys_fit c = let a = c.args in scan_long a.log.now a.used a.table.now a.handle _ _ (λ (m : Mark). scan_rows a.lower a.low.now a.upper a.high.now a.given a.last.now (rows a.log.now a.table.now m)) (scan_agrees a.lower a.low.now a.upper a.high.now a.given a.last.now a.log.now a.table.now) c.admit.ensures _ c.in-Ok.is c.keys_fit.ensures c.if-keys_fit.false
+returns-else-keys_fit c = let a = c.args in scan_long a.log.now a.used a.table.now a.handle _ _ (λ (m : Mark). scan_rows a.lower a.low.now a.upper a.high.now a.given a.last.now (rows a.log.now a.table.now m)) (scan_agrees a.lower a.low.now a.upper a.high.now a.given a.last.now a.log.now a.table.now) c.admit.ensures.mark _ (ap marked c.in-Ok.is) c.keys_fit.ensures c.if-keys_fit.false

@@ -8,7 +8,7 @@ pub returns-then-not-stands : goal.returns-then-not-stands
 returns-then-not-stands c = let a = c.args in undo_none a.log.now a.table.now a.mark a.spot a.version c.stands.ensures c.if-not-stands.true
 
 pub key_at-key-requires : goal.key_at-key-requires
-key_at-key-requires c = let a = c.args in (c.requires, row_stands a.log.now a.table.now a.mark a.spot c.stands.ensures c.if-not-stands.false)
+key_at-key-requires c = let a = c.args in (row_stands a.log.now a.table.now a.mark a.spot c.stands.ensures c.if-not-stands.false)
 
 pub returns-then-not-is_write : goal.returns-then-not-is_write
 returns-then-not-is_write c = let a = c.args in undo_other a.log.now a.table.now a.mark a.spot a.version c.stands.ensures c.if-not-stands.false c.key_at-key.ensures c.is_write.ensures c.if-not-is_write.true

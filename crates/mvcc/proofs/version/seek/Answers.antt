@@ -3,16 +3,16 @@ use Rattle.mvcc.proofs.version.SeenLaws.{seek_over, seek_stands, seek_less, seek
 use Rattle.mvcc.proofs.version.seek.Goals as goal
 
 pub loop-p-init : goal.loop-p-init
-loop-p-init c = record { within = c.requires.1; same = refl }
+loop-p-init c = record { within = c.requires; same = refl }
 
 pub row_before-requires : goal.row_before-requires
-row_before-requires c = (c.requires.0, c.loop-p.invariant.within)
+row_before-requires c = (c.loop-p.invariant.within)
 
 pub returns-in-None : goal.returns-in-None
 returns-in-None c = seek_over c.loop-p.invariant c.row_before.ensures c.in-None.is
 
 pub seen_at-seen-requires : goal.seen_at-seen-requires
-seen_at-seen-requires c = (c.requires.0, seek_stands c.loop-p.invariant c.row_before.ensures _ c.in-Some.is)
+seen_at-seen-requires c = (seek_stands c.loop-p.invariant c.row_before.ensures _ c.in-Some.is)
 
 pub returns-in-Gone : goal.returns-in-Gone
 returns-in-Gone c = seek_gone c.loop-p.invariant c.row_before.ensures _ c.in-Some.is c.seen_at-seen.ensures c.in-Gone.is

@@ -12,9 +12,6 @@ overflow_add-wants c = omega (arith, c.wants.ensures, c.wants-2.ensures, wants-f
 pub overflow_add-wants-2 : goal.overflow_add-wants-2
 overflow_add-wants-2 c = omega (arith, c.wants.ensures, c.wants-2.ensures, c.wants-3.ensures, wants-few (spot_place c.find-a.result), wants-few (spot_place c.find-b.result), wants-few (spot_place c.find-d.result))
 
-pub judge-requires : goal.judge-requires
-judge-requires c = c.requires.0
-
 pub append_set-one-requires : goal.append_set-one-requires
 append_set-one-requires c = let a = c.args in let p = c.requires in (p.0, three_first (three_tried a.log.now a.table.now a.mark a.first.now a.value.now a.second.now a.payload.now a.third.now p.0 p.1 p.2 p.3 _ _ _ c.find-a.ensures c.find-b.ensures c.find-d.ensures c.room_in-room.ensures c.room_after-left.ensures c.room_after-rest.ensures c.room_after-end.ensures c.wants.ensures c.wants-2.ensures c.wants-3.ensures c.judge.ensures) c.in-Ok.is, found_among a.log.now a.table.now a.first.now a.mark _ c.find-a.ensures)
 

@@ -1,13 +1,10 @@
 -- `step_past`: the walk from where the step starts.
-use Rattle.bitcask.specs.engine.Rows.{rows}
+use Rattle.bitcask.specs.engine.Views.{shown}
 use Rattle.mvcc.proofs.scan.BoundLaws.{past_by}
 use Rattle.mvcc.proofs.scan.bounds.step_past.Goals as goal
 
 pub start-from-requires : goal.start-from-requires
-start-from-requires c = (c.requires.0, c.requires.1)
-
-pub step_from-requires : goal.step_from-requires
-step_from-requires c = c.requires.0
+start-from-requires c = (c.requires)
 
 pub returns : goal.returns
-returns c = let a = c.args in past_by a.handle a.log.now (rows a.log.now a.table.now a.mark) a.given a.last.now a.lower a.low.now a.upper a.high.now c.start-from.ensures c.step_from.ensures
+returns c = let a = c.args in past_by a.handle a.view.now.log.now (shown a.view.now) a.given a.last.now a.lower a.low.now a.upper a.high.now c.start-from.ensures c.step_from.ensures
