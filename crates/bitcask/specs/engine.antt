@@ -10,3 +10,4 @@ pub mod Prefixes
 pub mod Extends
 pub mod Judging
 pub mod Views
+pub mod Stores

@@ -1,7 +1,7 @@
--- What rows ended and keys deleted leave of any store: nothing but the bytes behind the used ones was written to, and the sizes still lie
+-- What sets, rows ended and keys deleted leave of any store: nothing but the bytes behind the used ones was written to, and the sizes still lie
 -- within the log and the table. Assumes nothing.
-use Prim.Native.Nat.{ℕ, ◌+◌, ◌*◌, ◌<◌, ◌≤◌}
-use mathlib.Core.Path.{◌≡◌, refl, ap, ◌∙◌, subst}
+use Prim.Native.Nat.{◌+◌, ◌*◌, ◌<◌, ◌≤◌}
+use mathlib.Core.Path.{◌≡◌, refl, sym, ap, ◌∙◌, subst}
 use mathlib.Core.List.{List, [], ◌∷◌}
 use native.Mathlib.Decide.{dec_le, dec_lt}
 use native.Mathlib.Omega.{arith}
@@ -11,18 +11,20 @@ use lib.Seq.{length-take-le}
 use borrow.Author.Tests.{le-leb, lt-leb, lt-ltb, le-ltb}
 use Rattle.keycode.specs.Tests.{pick}
 use Rattle.keycode.specs.Buffer.{put}
-use Rattle.bitcask.specs.entry.Entry.{del, bytes_of, size_of}
+use Rattle.std.specs.Prelude.{Result, ℕ}
+use Rattle.bitcask.specs.entry.Entry.{set, del, bytes_of, size_of}
 use Rattle.bitcask.proofs.entry.EntryLaws.{length-bytes}
 use Rattle.bitcask.specs.declared.keydir.slots.Slot.{Slot}
 use Rattle.bitcask.specs.keydir.Slots.{slot_words, slots_of, key_of, remove_span}
-use Rattle.bitcask.specs.keydir.Place.{place_of, cut_at}
+use Rattle.bitcask.specs.keydir.Place.{place_of, cut_at, entered, Among}
 use Rattle.bitcask.proofs.keydir.SlotLaws.{slots_length}
 use Rattle.bitcask.proofs.keydir.PlaceLaws.{place-among}
-use Rattle.bitcask.proofs.keydir.TableLaws.{laid-length, cut_within}
-use Rattle.bitcask.specs.change.Append.{State, appended}
+use Rattle.bitcask.proofs.keydir.TableLaws.{laid-length, entered-within, cut_within}
+use Rattle.bitcask.specs.change.Append.{State, slot_of, appended}
 use Rattle.bitcask.specs.declared.engine.mark.Mark.{Mark}
 use Rattle.bitcask.specs.engine.Marks.{Held}
 use Rattle.bitcask.specs.engine.Endings.{Tail, tail_of, tombed, tombed_all, span_slots, left_with, ended_span}
+use Rattle.bitcask.specs.engine.Sets.{set_at}
 use Rattle.bitcask.specs.engine.Extends.{Extends}
 use Rattle.bitcask.proofs.engine.EndLaws.{span-length}
 use Rattle.bitcask.proofs.engine.ExtendLaws.{extends_none, extends_put, extends_more}
@@ -82,6 +84,12 @@ keeps_held h w =
     let e = w.extends in
     record { small = omega (arith, h.small, e.long); within = omega (arith, e.long, e.onward); room = w.room }
 
+-- the same of a store that was written to
+pub keeps_as : {log t log' t' : List ℕ} {m n : Mark} {r : State} → Held log t m
+    → ◌≡◌ {A = State} (record { log = log'; used = n.used.len; table = t'; count = n.count }) r
+    → Keeps (record { log = log; used = m.used.len; table = t; count = m.count }) r → Held log' t' n
+keeps_as {log} {t} {m = m} h e w = keeps_held h (subst (Keeps (record { log = log; used = m.used.len; table = t; count = m.count })) (sym e) w)
+
 module _ (s : State) (h : s.used ≤ length s.log) (k : slot_words * s.count ≤ length s.table) where
   pub ended-keeps : (i j : ℕ) → j ≤ s.count → Keeps s (ended_span s i j)
   unfolding ended_span
@@ -105,6 +113,21 @@ module _ (s : State) (h : s.used ≤ length s.log) (k : slot_words * s.count ≤
       let q : s.used + length (bytes_of (del key)) ≡ s.used + size_of (del key) = ap (λ (n : ℕ). s.used + n) (length-bytes (del key)) in
       record {
         extends = subst (Extends s.log s.used (put s.log s.used (bytes_of (del key)))) q (extends_put s.log s.used (bytes_of (del key)) (omega (arith, q)));
+        table = l;
+        room = omega (arith, l, c);
+      }
+
+  pub set-keeps : (f : Result ℕ ℕ) (key value : List ℕ) → Among s.count f → s.used + size_of (set key value) ≤ length s.log → Keeps s (set_at s f key value)
+  unfolding set_at
+  set-keeps f key value a g =
+      let ss : List Slot = slots_of s.count s.table in
+      let n = slots_length s.count s.table in
+      let x : Slot = slot_of s.used (set key value) in
+      let c : slot_words * length (entered s.table x f ss) ≤ length s.table = entered-within s.table f ss (rw n k) (rw n a) x in
+      let l = laid-length s.count (entered s.table x f ss) s.table k c in
+      let q : s.used + length (bytes_of (set key value)) ≡ s.used + size_of (set key value) = ap (λ (n : ℕ). s.used + n) (length-bytes (set key value)) in
+      record {
+        extends = subst (Extends s.log s.used (put s.log s.used (bytes_of (set key value)))) q (extends_put s.log s.used (bytes_of (set key value)) (omega (arith, q)));
         table = l;
         room = omega (arith, l, c);
       }

@@ -1,14 +1,15 @@
 // What is appended. A set is laid at the place that one search found, which the caller judged by; so that no key is searched for twice.
 ghost use Rattle.std.specs.Prelude.{◌≡◌, ◌++◌, ◌+◌, ◌-◌, ◌≤◌, length};
 ghost use Rattle.bitcask.specs.keydir.Place.{Among};
-ghost use Rattle.bitcask.specs.engine.Marks.{Held};
 ghost use Rattle.bitcask.specs.entry.Entry.{del as del_entry};
 ghost use Rattle.bitcask.specs.change.Append.{wants as wants_by, appended};
 ghost use Rattle.bitcask.specs.engine.Sets.{spot_place, set_at, up_by};
+ghost use Rattle.bitcask.specs.engine.Stores.{state_of, SameLent};
 
 use crate::append::{Mark as End, append_del as append_tomb};
 use crate::engine::mark::Mark;
 use crate::engine::spot::Spot;
+use crate::engine::store::Store;
 use crate::entry::put_set;
 use crate::keydir::{Slot, enter};
 use crate::request::Used;
@@ -42,54 +43,48 @@ pub fn wants(found: Result<Spot, Spot>) -> usize
     }
 }
 
-// A set whose value is head and then body, at the place that was found for its key.
-pub fn append_set(
-    log: &mut [u8],
-    table: &mut [u32],
-    mark: Mark,
-    found: Result<Spot, Spot>,
-    key: &[u8],
-    head: &[u8],
-    body: &[u8],
-) -> Mark
-    requires { (Held log.old table.old mark) × (mark.used.len + 8 + length key.now + length head.now + length body.now ≤ length log.old) × (Among mark.count (spot_place found)) }
-    ensures { record { log = log.new; used = result.used.len; table = table.new; count = result.count }
-        ≡ set_at (record { log = log.old; used = mark.used.len; table = table.old; count = mark.count }) (spot_place found) key.now (head.now ++ body.now) }
-{
-    let at = mark.used.len;
-    let klen = key.len();
-    let vlen = head.len() + body.len();
-    let end = put_set(log, at, key, head, body);
-    let n = enter(
-        table,
-        mark.count,
-        place_of(found),
-        Slot {
-            place: (at + 1) as u32,
-            klen: klen as u32,
-            vlen: vlen as u32,
-        },
-    );
-    Mark {
-        used: moved(mark.used, end),
-        count: n,
+impl Store<'_> {
+    // A set whose value is head and then body, at the place that was found for its key.
+    pub fn append_set(&mut self, found: Result<Spot, Spot>, key: &[u8], head: &[u8], body: &[u8])
+        requires { (self.old.mark.used.len + 8 + length key.now + length head.now + length body.now ≤ length self.old.log.now) × (Among self.old.mark.count (spot_place found)) }
+        ensures lent { SameLent self.old self.new }
+        ensures state { state_of self.new ≡ set_at (state_of self.old) (spot_place found) key.now (head.now ++ body.now) }
+    {
+        let at = self.mark.used.len;
+        let klen = key.len();
+        let vlen = head.len() + body.len();
+        let end = put_set(self.log, at, key, head, body);
+        let n = enter(
+            self.table,
+            self.mark.count,
+            place_of(found),
+            Slot {
+                place: (at + 1) as u32,
+                klen: klen as u32,
+                vlen: vlen as u32,
+            },
+        );
+        self.mark = Mark {
+            used: moved(self.mark.used, end),
+            count: n,
+        };
     }
-}
 
-// A tombstone of a key, which is found once.
-pub fn append_del(log: &mut [u8], table: &mut [u32], mark: Mark, key: &[u8]) -> Mark
-    requires { (Held log.old table.old mark) × (mark.used.len + 8 + length key.now ≤ length log.old) }
-    ensures { record { log = log.new; used = result.used.len; table = table.new; count = result.count }
-        ≡ appended (record { log = log.old; used = mark.used.len; table = table.old; count = mark.count }) (del_entry key.now) }
-{
-    let before = End {
-        used: mark.used.len,
-        count: mark.count,
-    };
-    let end = append_tomb(log, table, before, key);
-    Mark {
-        used: moved(mark.used, end.used),
-        count: end.count,
+    // A tombstone of a key, which is found once.
+    pub fn append_del(&mut self, key: &[u8])
+        requires { self.old.mark.used.len + 8 + length key.now ≤ length self.old.log.now }
+        ensures lent { SameLent self.old self.new }
+        ensures state { state_of self.new ≡ appended (state_of self.old) (del_entry key.now) }
+    {
+        let before = End {
+            used: self.mark.used.len,
+            count: self.mark.count,
+        };
+        let end = append_tomb(self.log, self.table, before, key);
+        self.mark = Mark {
+            used: moved(self.mark.used, end.used),
+            count: end.count,
+        };
     }
 }
 

@@ -4,15 +4,16 @@ ghost use Rattle.std.specs.Prelude.{◌≡◌, ◌+◌, ◌≤◌, ◌<◌, leng
 ghost use Rattle.keycode.specs.Limits.{max_log};
 ghost use Rattle.bitcask.specs.keydir.Slots.{slots_of};
 ghost use Rattle.bitcask.specs.engine.Marks.{Held};
-ghost use Rattle.bitcask.specs.engine.Rows.{rows};
 ghost use Rattle.bitcask.specs.engine.Spots.{rank};
 ghost use Rattle.bitcask.specs.engine.Endings.{tombed, tombed_all, span_slots, ended_span};
+ghost use Rattle.bitcask.specs.engine.Stores.{state_of, kept, SameLent};
 
 use crate::engine::change::moved;
 use crate::engine::mark::Mark;
 use crate::engine::row::wide;
 use crate::engine::span::Span;
 use crate::engine::spot::Spot;
+use crate::engine::store::Store;
 use crate::engine::tomb::tomb_of;
 use crate::keydir::{Slot, remove_span, slot_at};
 
@@ -47,33 +48,37 @@ fn lay_tombs(log: &mut [u8], table: &[u32], mark: Mark, from: usize, to: usize) 
     at
 }
 
-// All rows of a span ended.
-pub fn end_span(log: &mut [u8], table: &mut [u32], mark: Mark, span: Span) -> Mark
-    requires { (Held log.old table.old mark) × (rank span.to (rows log.old table.old mark) ≤ length (rows log.old table.old mark)) }
-    ensures { record { log = log.new; used = result.used.len; table = table.new; count = result.count }
-        ≡ ended_span (record { log = log.old; used = mark.used.len; table = table.old; count = mark.count }) (rank span.from (rows log.old table.old mark)) (rank span.to (rows log.old table.old mark)) }
-{
-    let from = span.from.number;
-    let to = span.to.number;
-    if to <= from {
-        return mark;
+impl Store<'_> {
+    // All rows of a span ended.
+    pub fn end_span(&mut self, span: Span)
+        requires { rank span.to (kept self.old) ≤ length (kept self.old) }
+        ensures lent { SameLent self.old self.new }
+        ensures state { state_of self.new ≡ ended_span (state_of self.old) (rank span.from (kept self.old)) (rank span.to (kept self.old)) }
+    {
+        let from = span.from.number;
+        let to = span.to.number;
+        if to <= from {
+            return;
+        }
+        let mark = self.mark;
+        let table = &mut *self.table;
+        let end = lay_tombs(self.log, table, mark, from, to);
+        remove_span(table, mark.count, from, to);
+        self.mark = Mark {
+            used: moved(mark.used, end),
+            count: mark.count - (to - from),
+        };
     }
-    let end = lay_tombs(log, table, mark, from, to);
-    remove_span(table, mark.count, from, to);
-    Mark {
-        used: moved(mark.used, end),
-        count: mark.count - (to - from),
-    }
-}
 
-// One row ended.
-pub fn end_at(log: &mut [u8], table: &mut [u32], mark: Mark, spot: Spot) -> Mark
-    requires { (Held log.old table.old mark) × (rank spot (rows log.old table.old mark) < length (rows log.old table.old mark)) }
-    ensures { record { log = log.new; used = result.used.len; table = table.new; count = result.count }
-        ≡ ended_span (record { log = log.old; used = mark.used.len; table = table.old; count = mark.count }) (rank spot (rows log.old table.old mark)) (rank spot (rows log.old table.old mark) + 1) }
-{
-    let to = Spot {
-        number: spot.number + 1,
-    };
-    end_span(log, table, mark, Span { from: spot, to })
+    // One row ended.
+    pub fn end_at(&mut self, spot: Spot)
+        requires { rank spot (kept self.old) < length (kept self.old) }
+        ensures lent { SameLent self.old self.new }
+        ensures state { state_of self.new ≡ ended_span (state_of self.old) (rank spot (kept self.old)) (rank spot (kept self.old) + 1) }
+    {
+        let to = Spot {
+            number: spot.number + 1,
+        };
+        self.end_span(Span { from: spot, to });
+    }
 }
