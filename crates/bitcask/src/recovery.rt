@@ -9,7 +9,7 @@ ghost use Rattle.keycode.specs.Limits.{max_log};
 ghost use Rattle.bitcask.specs.recovery.Promises.{Walks, Opens};
 
 use crate::keydir::clear;
-use crate::recovery::passing::{Passed, pass};
+use crate::recovery::passing::pass;
 use crate::request::{Used, fits};
 use keycode::Refusal;
 
@@ -18,15 +18,8 @@ fn walk(log: &[u8], used: usize, table: &mut [u32]) -> Result<Used, Refusal>
     requires { (used ≤ max_log) × (table.old ≡ replicate (length table.old) 0) }
     ensures { Walks log.now used (length table.old) result table.new }
 {
-    let passed = pass(log, used, table, 0, 0, used);
-    match passed {
-        Passed::Full => Err(Refusal::TableFull),
-        Passed::On {
-            at,
-            count: _,
-            left: _,
-        } => Ok(Used { len: at }),
-    }
+    let passed = pass(log, used, table, 0, 0, used)?;
+    Ok(Used { len: passed.at })
 }
 
 // The table of a log. A refusal leaves every word 0.
