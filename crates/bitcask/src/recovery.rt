@@ -8,7 +8,6 @@ ghost use Rattle.std.specs.Prelude.{◌≡◌, ◌≤◌, length, replicate};
 ghost use Rattle.keycode.specs.Limits.{max_log};
 ghost use Rattle.bitcask.specs.recovery.Promises.{Walks, Opens};
 
-use crate::keydir::clear;
 use crate::recovery::passing::pass;
 use crate::request::{Used, fits};
 use keycode::Refusal;
@@ -26,7 +25,7 @@ fn walk(log: &[u8], used: usize, table: &mut [u32]) -> Result<Used, Refusal>
 pub fn open(log: &[u8], used: Used, table: &mut [u32]) -> Result<Used, Refusal>
     ensures { Opens log.now used.len table.old result table.new }
 {
-    clear(table);
+    table.fill(0);
     let len = used.len;
     if !fits(log.len(), len, table.len()) {
         return Err(Refusal::BadRequest);

@@ -8,7 +8,7 @@ ghost use Rattle.bitcask.specs.recovery.Waiting.{max_waiting};
 ghost use Rattle.bitcask.specs.recovery.Passing.{TakesEntry, GoesOver, Passes};
 
 use crate::entry::{Lengths, entry_at};
-use crate::keydir::{SLOT_WORDS, Slot, clear};
+use crate::keydir::{SLOT_WORDS, Slot};
 use crate::merging::GONE;
 use crate::recovery::waiting::{Held, MAX_WAITING, Next, make_room, settle, take_del, take_set};
 use keycode::Refusal;
@@ -129,7 +129,7 @@ pub(crate) fn pass(
     let mut pend = [0u32; SLOT_WORDS * MAX_WAITING];
     let passed = pass_with(log, used, table, &mut pend, count, start, most);
     if passed.is_err() {
-        clear(table);
+        table.fill(0);
     }
     passed
 }
