@@ -2,9 +2,7 @@
 // and taken out. It is the KeyDir of toydb's storage/bitcask.rs over a lent table of words (document 01, 'Sizes').
 pub mod place;
 pub mod slots;
-pub(crate) mod words;
 
 pub(crate) use crate::keydir::place::{enter, find, leave};
 pub use crate::keydir::slots::{SLOT_WORDS, Slot, key_of};
 pub(crate) use crate::keydir::slots::{count, remove_span, slot_at, value_of};
-pub(crate) use crate::keydir::words::clear;

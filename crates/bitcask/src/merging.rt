@@ -1,6 +1,5 @@
 // Changes that wait beside a table and are brought into it in one pass each way: the waiting keys' slots taken out and the gaps closed,
 // then new slots put in from the last on. A table of n slots takes k changes at the cost of n moves, not of k times n.
-pub(crate) mod moves;
 pub(crate) mod out;
 pub(crate) mod put;
 

@@ -7,14 +7,12 @@ use crate::answers::Bound;
 use crate::keydir::find;
 
 // How many keys are below one.
-fn below(log: &[u8], table: &[u32], count: usize, key: &[u8]) -> usize
+pub(crate) fn below(log: &[u8], table: &[u32], count: usize, key: &[u8]) -> usize
     requires { slot_words * count ≤ length table.now }
     ensures { (result ≡ below_of log.now key.now (slots_of count table.now)) × (result ≤ count) }
 {
-    match find(log, table, count, key) {
-        Ok(i) => i,
-        Err(i) => i,
-    }
+    let (Ok(i) | Err(i)) = find(log, table, count, key);
+    i
 }
 
 // How many keys are below one or the same.

@@ -21,19 +21,13 @@ pub fn part<'a>(log: &'a [u8], place: Part) -> &'a [u8]
     clip(log, at, len)
 }
 
-fn wide(x: u32) -> usize
-    ensures { (result ≡ x) × (result < 4294967296) }
-{
-    x as usize
-}
-
 // The place of a slot's key.
 pub(crate) fn key_part(s: Slot) -> Part
     ensures { result ≡ key_part s }
 {
     Part {
-        at: wide(s.place) + 7,
-        len: wide(s.klen),
+        at: s.key_at(),
+        len: s.klen as usize,
     }
 }
 
@@ -42,8 +36,8 @@ pub(crate) fn value_part(s: Slot) -> Part
     ensures { result ≡ value_part s }
 {
     Part {
-        at: wide(s.place) + 7 + wide(s.klen),
-        len: wide(s.vlen),
+        at: s.value_at(),
+        len: s.vlen as usize,
     }
 }
 

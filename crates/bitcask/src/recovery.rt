@@ -8,8 +8,7 @@ ghost use Rattle.std.specs.Prelude.{◌≡◌, ◌≤◌, length, replicate};
 ghost use Rattle.keycode.specs.Limits.{max_log};
 ghost use Rattle.bitcask.specs.recovery.Promises.{Walks, Opens};
 
-use crate::keydir::clear;
-use crate::recovery::passing::{Passed, pass};
+use crate::recovery::passing::pass;
 use crate::request::{Used, fits};
 use keycode::Refusal;
 
@@ -18,22 +17,15 @@ fn walk(log: &[u8], used: usize, table: &mut [u32]) -> Result<Used, Refusal>
     requires { (used ≤ max_log) × (table.old ≡ replicate (length table.old) 0) }
     ensures { Walks log.now used (length table.old) result table.new }
 {
-    let passed = pass(log, used, table, 0, 0, used);
-    match passed {
-        Passed::Full => Err(Refusal::TableFull),
-        Passed::On {
-            at,
-            count: _,
-            left: _,
-        } => Ok(Used { len: at }),
-    }
+    let passed = pass(log, used, table, 0, 0, used)?;
+    Ok(Used { len: passed.at })
 }
 
 // The table of a log. A refusal leaves every word 0.
 pub fn open(log: &[u8], used: Used, table: &mut [u32]) -> Result<Used, Refusal>
     ensures { Opens log.now used.len table.old result table.new }
 {
-    clear(table);
+    table.fill(0);
     let len = used.len;
     if !fits(log.len(), len, table.len()) {
         return Err(Refusal::BadRequest);

@@ -36,17 +36,17 @@ used-is log t u v c e f = ap (λ (n : ℕ). record { log = log; used = n; table 
 
 -- ---- one tombstone
 
-module _ (log : List ℕ) (used : ℕ) (x : Slot) {p k : ℕ} (ep : p ≡ x.place) (ek : k ≡ x.klen) where
-  pub tomb_out : used < p + 7 + k → ◌≡◌ {A = Tail} (record { log = log; used = used }) (tombed (record { log = log; used = used }) x)
+module _ (log : List ℕ) (used : ℕ) (x : Slot) {p k : ℕ} (ep : p ≡ x.place + 7) (ek : k ≡ x.klen) where
+  pub tomb_out : used < p + k → ◌≡◌ {A = Tail} (record { log = log; used = used }) (tombed (record { log = log; used = used }) x)
   unfolding tombed
   tomb_out h = rw (lt-leb (x.place + 7 + x.klen) used (omega (arith, ep, ek)))
 
-  module _ (h : p + 7 + k ≤ used) where
+  module _ (h : p + k ≤ used) where
     pub tomb_tight : length log < used + 8 + k → ◌≡◌ {A = Tail} (record { log = log; used = used }) (tombed (record { log = log; used = used }) x)
     unfolding tombed
     tomb_tight g = rw (le-leb (x.place + 7 + x.klen) used (omega (arith, ep, ek)), lt-leb (used + 8 + x.klen) (length log) (omega (arith, ek)))
 
-    pub tomb_done : used + 8 + k ≤ length log → (log' : List ℕ) (u : ℕ) → log' ≡ put log used (bytes_of (del (take k (drop (p + 7) log)))) → u ≡ used + 8 + k
+    pub tomb_done : used + 8 + k ≤ length log → (log' : List ℕ) (u : ℕ) → log' ≡ put log used (bytes_of (del (take k (drop p log)))) → u ≡ used + 8 + k
         → ◌≡◌ {A = Tail} (record { log = log'; used = u }) (tombed (record { log = log; used = used }) x)
     unfolding tombed key_of
     tomb_done g log' u e q =

@@ -122,23 +122,23 @@ module _ (log t : List ℕ) (m : Mark) (p : Spot) (h : Held log t m) (k : rank p
     pub value-is : {r : List ℕ} → r ≡ value_of log s → r ≡ (row_at p (rows log t m)).value
     value-is e = e ∙ sym (ap (λ (x : Row). x.value) row_is)
 
-    module _ {a : ℕ} (ea : a ≡ s.place) (la : a < 4294967296) where
+    pub offset_is : {n : ℕ} → n ≡ s.place - 1 → n ≡ offset_of (row_at p (rows log t m))
+    offset_is e = rw row_is (omega arith)
+
+    module _ {a : ℕ} (ea : a ≡ s.place + 7) (la : a < 4294967303) where
       module _ {r : List ℕ} (er : r ≡ key_of log s) where
         key-short : length r ≤ length log
         unfolding key_of
         key-short = omega (arith, ap length er, length-take s.klen (drop (s.place + 7) log), length-drop (s.place + 7) log)
 
-        pub key_place_is : (record { at = a + 7; len = length r } ≡ key_place (row_at p (rows log t m))) × (a + 7 + length r < 2 ^ 63)
-        key_place_is = ((λ j. record { at = ea j + 7; len = length (er j) }) ∙ sym (ap key_place row_is), omega (arith, key-short, h.small))
+        pub key_place_is : (record { at = a; len = length r } ≡ key_place (row_at p (rows log t m))) × (a + length r < 2 ^ 63)
+        key_place_is = ((λ j. record { at = ea j; len = length (er j) }) ∙ sym (ap key_place row_is), omega (arith, key-short, h.small))
 
         module _ {v : List ℕ} (ev : v ≡ value_of log s) where
           value-short : length v ≤ length log
           unfolding value_of
           value-short = omega (arith, ap length ev, length-take s.vlen (drop (s.place + 7 + s.klen) log), length-drop (s.place + 7 + s.klen) log)
 
-          pub value_place_is : (record { at = a + 7 + length r; len = length v } ≡ value_place (row_at p (rows log t m))) × (a + 7 + length r + length v < 2 ^ 63)
+          pub value_place_is : (record { at = a + length r; len = length v } ≡ value_place (row_at p (rows log t m))) × (a + length r + length v < 2 ^ 63)
           value_place_is =
-              ((λ j. record { at = ea j + 7 + length (er j); len = length (ev j) }) ∙ sym (ap value_place row_is), omega (arith, key-short, value-short, h.small))
-
-      pub offset_is : {n : ℕ} → n ≡ a - 1 → n ≡ offset_of (row_at p (rows log t m))
-      offset_is e = rw row_is (omega arith)
+              ((λ j. record { at = ea j + length (er j); len = length (ev j) }) ∙ sym (ap value_place row_is), omega (arith, key-short, value-short, h.small))

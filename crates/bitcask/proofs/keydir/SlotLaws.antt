@@ -201,10 +201,10 @@ insert_is t n i s h k =
 
 -- ---- parts of a log
 
-pub key-is : (log : List ℕ) (s : Slot) {a b : ℕ} {r : List ℕ} → a ≡ s.place → b ≡ s.klen → r ≡ take b (drop (a + 7) log) → r ≡ key_of log s
+pub key-is : (log : List ℕ) (s : Slot) {a : ℕ} {r : List ℕ} → a ≡ s.place + 7 → r ≡ take s.klen (drop a log) → r ≡ key_of log s
 unfolding key_of
-key-is log s {a} {b} {r} e f g = g ∙ rw (e, f)
+key-is log s e g = g ∙ ap (λ (n : ℕ). take s.klen (drop n log)) e
 
-pub value-is : (log : List ℕ) (s : Slot) {a b c : ℕ} {r : List ℕ} → a ≡ s.place → b ≡ s.klen → c ≡ s.vlen → r ≡ take c (drop (a + 7 + b) log) → r ≡ value_of log s
+pub value-is : (log : List ℕ) (s : Slot) {a : ℕ} {r : List ℕ} → a ≡ s.place + 7 + s.klen → r ≡ take s.vlen (drop a log) → r ≡ value_of log s
 unfolding value_of
-value-is log s {a} {b} {c} {r} e f g q = q ∙ rw (e, f, g)
+value-is log s e g = g ∙ ap (λ (n : ℕ). take s.vlen (drop n log)) e

@@ -1,14 +1,15 @@
--- Laws of words copied within a table, by any number w of words: a turn of each loop that moves or clears words, a run laid right before
--- another, and that a part of a table moved or cleared is one of the whole. Assumes nothing.
-use Prim.Native.Nat.{ℕ, zero, suc, ◌+◌, ◌-◌, ◌<◌, ◌≤◌}
-use mathlib.Core.Path.{◌≡◌, sym, ap, ◌∙◌}
+-- Laws of words copied within a table: that the library's `copy_within` is that, a turn of a loop that moves by w words or clears, a run
+-- laid right before another, and that a part of a table cleared is one of the whole. Assumes nothing.
+use Prim.Native.Nat.{ℕ, suc, ◌+◌, ◌-◌, ◌<◌, ◌≤◌}
+use mathlib.Core.Path.{◌≡◌, refl, sym, ap, ◌∙◌}
 use mathlib.Core.List.{List, [], ◌∷◌, ◌++◌, append_assoc, append-nil}
 use native.Mathlib.Omega.{arith}
-use native.Mathlib.Nat.{add_assoc, zero-add, suc-add}
+use native.Mathlib.Nat.{add_assoc}
 use native.Mathlib.Numerals.{add-one}
 use borrow.Author.Fill.{fill_more}
-use lib.ListN.{length, take, drop, get_or, set, replicate, length-append, length-take, length-drop, length-replicate, get_or-append, drop_of_length-le, take-append-drop}
-use lib.Seq.{drop-drop, take-add, take_all, take-nil, drop-nil, slice, slice_empty, slice-cons, take-suc, length-take-le, get_or-take, get_or-drop, get_or-append-add, drop-append-le, length-slice, take-append-le, take-take, drop_at}
+use lib.ListN.{length, take, drop, get_or, set, replicate, length-append, length-take, length-drop, length-replicate, get_or-append, drop_of_length-le}
+use lib.Seq.{drop-drop, take-add, slice, slice_empty, slice-cons, take-suc, length-take-le, get_or-take, get_or-drop, get_or-append-add, drop-append-le, length-slice, take-append-le, take-take, drop_at}
+use Rattle.std.specs.List.{copy_within}
 use Rattle.keycode.specs.Buffer.{put}
 use Rattle.keycode.proofs.BufferLaws.{set-put, put-none, put-before, put-put, length-put}
 use Rattle.bitcask.specs.keydir.Words.{copied}
@@ -47,13 +48,15 @@ module _ (l : List ℕ) where
   unfolding copied
   copy_none t g = put-none l g ∙ ap (put l g) (sym (slice_empty t l))
 
-  -- where the words stand already
-  pub copy_self : (f t g : ℕ) → g ≡ f → f ≤ t → t ≤ length l → l ≡ copied l f t g
+  -- the library's words for it
+  pub within_is : (f t g : ℕ) {x : List ℕ} → f ≤ t → t ≤ length l → x ≡ copy_within l f t g → x ≡ copied l f t g
   unfolding copied put
-  copy_self f t g e h k =
-      let n : f + length (slice f t l) ≡ t = omega (arith, length-slice f t l k) in
-      let q : take f l ++ slice f t l ≡ take t l = ap (λ (x : List ℕ). x ++ slice f t l) (sym (take-take f t l h)) ∙ take-append-drop f (take t l) in
-      sym (rw (e, n, q) (take-append-drop t l))
+  within_is f t g h k e =
+      let n : f + (t - f) ≡ t = omega arith in
+      let c : take t l ≡ take f l ++ take (t - f) (drop f l) = ap (λ (m : ℕ). take m l) (sym n) ∙ take-add f (t - f) l in
+      let s : slice f t l ≡ take (t - f) (drop f l) = ap (drop f) c ∙ drop_at (take f l) (take (t - f) (drop f l)) f (length-take-le f l (omega arith)) in
+      let d : length (take (t - f) (drop f l)) ≡ t - f = ap length (sym s) ∙ length-slice f t l k in
+      e ∙ sym (rw (s, d) refl)
 
   -- the words below i are cleared
   pub clear_turn : (x : List ℕ) (i : ℕ) → x ≡ replicate i 0 ++ drop i l → i < length l → set x i 0 ≡ replicate (i + 1) 0 ++ drop (i + 1) l
@@ -100,59 +103,6 @@ module _ (w : ℕ) (l : List ℕ) where
 
   pub down_turn : (x : List ℕ) (f j : ℕ) → x ≡ copied l (f + w) (j + w) f → f ≤ j → j + w < length l → set x j (get_or x (j + w) 0) ≡ copied l (f + w) (j + 1 + w) f
   down_turn x f j e h k = rw e (down_more f j h k)
-
-  -- a run by its ends
-  pub down_at : (x : List ℕ) (j g f t : ℕ) → x ≡ copied l (g + w) (j + w) g → g + w ≡ f → j + w ≡ t → x ≡ copied l f t g
-  down_at x j g f t e p q = e ∙ rw (p, q)
-
-  pub up_end : (x : List ℕ) (j t : ℕ) → x ≡ copied l j t (j + w) → j ≤ 0 → x ≡ copied l 0 t w
-  up_end x j t e h =
-      let p : j ≡ 0 = omega arith in
-      let q : j + w ≡ w = omega arith in
-      e ∙ rw (q, p)
-
-  pub down_end : (x : List ℕ) (j t : ℕ) → x ≡ copied l (0 + w) (j + w) 0 → j ≤ t → t ≤ j → x ≡ copied l w (t + w) 0
-  down_end x j t e h k =
-      let p : j ≡ t = omega arith in
-      let q : 0 + w ≡ w = omega arith in
-      e ∙ rw (q, p)
-
--- ---- a move within a part is one within the whole
-
-put_part : (l : List ℕ) (at g : ℕ) (xs : List ℕ) → take at l ++ put (drop at l) g xs ≡ put l (at + g) xs
-unfolding put
-put_part l at g xs =
-    rw (drop-drop (g + length xs) at l, take-add at g l)
-    (simp (append_assoc, add_assoc))
-
-part_slice : (l : List ℕ) (at f t : ℕ) → slice f t (drop at l) ≡ slice (at + f) (at + t) l
-part_slice l zero f t = rw (zero-add f, zero-add t)
-part_slice [] (suc at) f t = rw (take-nil t, take-nil (suc at + t), drop-nil f, drop-nil (suc at + f))
-part_slice (x ∷ l) (suc at) f t = rw (suc-add at f, suc-add at t) (part_slice l at f t)
-
-copied_part : (l : List ℕ) (at f t g : ℕ) → take at l ++ copied (drop at l) f t g ≡ copied l (at + f) (at + t) (at + g)
-unfolding copied
-copied_part l at f t g = rw (part_slice l at f t) (put_part l at g (slice (at + f) (at + t) l))
-
--- what a call on the part from index at on leaves of the whole
-pub lent : (l : List ℕ) (at f t g : ℕ) {x : List ℕ} → x ≡ copied (take (length l - at) (drop at l)) f t g
-    → take at l ++ (x ++ drop (length l - at) (drop at l)) ≡ copied l (at + f) (at + t) (at + g)
-lent l at f t g e =
-    let n : length (drop at l) ≡ length l - at = length-drop at l in
-    rw (e, take_all (length l - at) (drop at l) (omega arith), drop_of_length-le (drop at l) {i = length l - at} (omega arith), append-nil) (copied_part l at f t g)
-
-module _ (w : ℕ) (l : List ℕ) (at to : ℕ) (h : at ≤ to) where
-  pub shift_up_is : {x : List ℕ} → x ≡ copied (take (length l - at) (drop at l)) 0 (to - at) w → take at l ++ (x ++ drop (length l - at) (drop at l)) ≡ copied l at to (at + w)
-  shift_up_is e =
-      let p : at + 0 ≡ at = omega arith in
-      let q : at + (to - at) ≡ to = omega arith in
-      lent l at 0 (to - at) w e ∙ rw (p, q)
-
-  pub shift_down_is : {x : List ℕ} → x ≡ copied (take (length l - at) (drop at l)) w (to - at + w) 0 → take at l ++ (x ++ drop (length l - at) (drop at l)) ≡ copied l (at + w) (to + w) at
-  shift_down_is e =
-      let p : at + 0 ≡ at = omega arith in
-      let q : at + (to - at + w) ≡ to + w = omega arith in
-      lent l at w (to - at + w) 0 e ∙ rw (p, q)
 
 -- a part, cleared
 module _ (l : List ℕ) (at end : ℕ) (h : at ≤ end) (g : end ≤ length l) {x : List ℕ} (e : x ≡ replicate (length (take (end - at) (drop at l))) 0) where

@@ -7,7 +7,7 @@ use mathlib.Core.List.{List, [], ◌∷◌, ◌++◌, append_assoc, append-nil}
 use native.Mathlib.Omega.{arith}
 use lib.ListN.{length, take, drop, get_or, length-drop, take-append-drop}
 use lib.Seq.{slice, take-suc, take-length}
-use Rattle.std.specs.Prelude.{Result, ℕ}
+use Rattle.std.specs.Prelude.{Result, ℕ, Result, Ok, Err}
 use Rattle.keycode.specs.Buffer.{put}
 use Rattle.keycode.specs.Tests.{pick}
 use Rattle.keycode.proofs.BufferLaws.{length-put}
@@ -20,6 +20,7 @@ use Rattle.bitcask.proofs.keydir.SlotLaws.{words_append, words-length, slots_len
 use Rattle.bitcask.proofs.keydir.HalveLaws.{among_index}
 use Rattle.bitcask.proofs.keydir.PlaceLaws.{place-among, place-sorted}
 use Rattle.bitcask.proofs.keydir.SortLaws.{all-turn}
+use Rattle.bitcask.specs.read.Ranks.{before_at, below}
 use Rattle.bitcask.specs.merging.Merge.{is_gone, lay, lays, new_of, news}
 use Rattle.bitcask.specs.merging.Passes.{placed, PutsNext, PutsAll}
 use Rattle.bitcask.proofs.merging.MergeLaws.{sorted-take, sorted-last, place-over, lays-before, lays-last}
@@ -79,13 +80,20 @@ module _ (log t : List ℕ) (end left : ℕ) (s : Slot) where
     back = rw e;
   }
 
-  module _ (g : is_gone s ≡ false) (some : 0 < left) (h : slot_words * (end + left) ≤ length t) {key : List ℕ} {f : Result ℕ ℕ} {j : ℕ} (ek : key ≡ key_of log s)
-      (ef : f ≡ place_of log key (slots_of end t)) (ej : j ≡ index_of f) where
-    pub next-within : j ≤ end
+  module _ (g : is_gone s ≡ false) (some : 0 < left) (h : slot_words * (end + left) ≤ length t) {key : List ℕ} {j : ℕ} (ek : key ≡ key_of log s)
+      (ej : j ≡ below log key (slots_of end t)) where
+    spot_is : j ≡ index_of (place_of log (key_of log s) (slots_of end t))
+    unfolding below
+    spot_is = ej ∙ ap (λ (k : List ℕ). before_at (place_of log k (slots_of end t))) ek ∙ by_place (place_of log (key_of log s) (slots_of end t))
+      where
+        by_place : (f : Result ℕ ℕ) → before_at f ≡ index_of f
+        by_place (Ok i) = refl
+        by_place (Err i) = refl
+
+    next-within : j ≤ end
     next-within =
-        let a = among_index (length (slots_of end t)) (place_of log key (slots_of end t)) (place-among log key (slots_of end t)) in
-        let b : j ≡ index_of (place_of log key (slots_of end t)) = ej ∙ ap index_of ef in
-        omega (arith, slots_length end t)
+        let a = among_index (length (slots_of end t)) (place_of log (key_of log s) (slots_of end t)) (place-among log (key_of log s) (slots_of end t)) in
+        omega (arith, slots_length end t, spot_is)
 
     module _ {y z : List ℕ} (ey : y ≡ copied t (slot_words * j) (slot_words * end) (slot_words * j + slot_words * left)) (ez : z ≡ put y (slot_words * (j + left - 1)) (words_of (s ∷ []))) where
       abbrev at : ℕ
@@ -127,7 +135,7 @@ module _ (log t : List ℕ) (end left : ℕ) (s : Slot) where
             long = z_long;
             within = hj;
             fewer = rw g (omega arith);
-            place = rw g (ej ∙ ap index_of ef ∙ ap (λ (k : List ℕ). index_of (place_of log k (slots_of end t))) ek);
+            place = rw g spot_is;
             front = slots_same j z t (ap (take (slot_words * j)) z_put ∙ put_fore t at ws z_fits (slot_words * j) (omega arith)) (omega (arith, z_long)) (omega arith) ∙ slots-take j end t hj;
             back = rw (g, e₁) (ap (drop at) z_put ∙ put-at t at ws z_fits ∙ ap (λ (k : ℕ). ws ++ drop k t) e₂);
           }

@@ -19,7 +19,9 @@ use Rattle.bitcask.proofs.keydir.PlaceLaws.{place-among}
 use Rattle.bitcask.proofs.keydir.TableLaws.{entered-room, entered-within, laid-slots, laid-length, table-laid}
 use Rattle.bitcask.specs.merging.Merge.{look, is_gone, Merges}
 use Rattle.bitcask.specs.declared.recovery.waiting.Held.{Held}
-use Rattle.bitcask.specs.declared.recovery.waiting.Took.TheVariants.{Over, Full, Next}
+use Rattle.bitcask.specs.declared.recovery.waiting.Next.{Next}
+use Rattle.keycode.specs.declared.refusal.Refusal.{Refusal}
+use Rattle.keycode.specs.declared.refusal.Refusal.TheVariants.{TableFull}
 use Rattle.bitcask.specs.recovery.Recover.{Item, step_in}
 use Rattle.bitcask.specs.recovery.Waiting.{waits_gone, Holds, Answers, answers-full, answers_next, Enters, Leaves}
 use Rattle.bitcask.proofs.recovery.HoldLaws.{put_waits, gone_waits, waits_not, put-table, key-looks, found_in, at-look, before-look, put-live, put_fresh, cut_live, cut_fresh, step-live, step_new, step-full}
@@ -30,21 +32,14 @@ pub becomes_slots : {t : List ℕ} {n : ℕ} {ss : List Slot} {t' : List ℕ} {m
 becomes_slots {t} {n} {ss} {m = m} b = ap (slots_of m) b.words ∙ ap (λ (i : ℕ). slots_of i (laid n ss t)) b.count ∙ laid-slots n ss t
 
 -- an answer that goes on stays within the sizes
-module _ (end : ℕ) (h : Held) (l w : ℕ) (p : slot_words * h.count ≤ l) (q : h.waiting ≤ w + 1) where
-  pub on_within : (a : ℕ) (h' : Held) → Next end h ≡ Next a h' → (slot_words * h'.count ≤ l) × (h'.waiting ≤ w + 1) × (a ≡ end)
-  on_within a h' e =
-      let f : h ≡ h' = cc in
-      let g : end ≡ a = cc in
-      (subst (λ (x : Held). slot_words * x.count ≤ l) f p, subst (λ (x : Held). x.waiting ≤ w + 1) f q, sym g)
+pub on_within : (end : ℕ) (h : Held) (l w : ℕ) → slot_words * h.count ≤ l → h.waiting ≤ w + 1
+    → (x : Next) → ◌≡◌ {A = Result Next Refusal} (Ok (record { at = end; held = h })) (Ok x) → (slot_words * x.held.count ≤ l) × (x.held.waiting ≤ w + 1) × (x.at ≡ end)
+on_within end h l w p q x e =
+    let f : ◌≡◌ {A = Next} (record { at = end; held = h }) x = cc in
+    subst (λ (y : Next). (slot_words * y.held.count ≤ l) × (y.held.waiting ≤ w + 1) × (y.at ≡ end)) f (p, q, refl)
 
-pub next-over : (end : ℕ) (h : Held) → Next end h ≡ Over → ⊥
-next-over end h e = nope (cc)
-
-full-over : Full ≡ Over → ⊥
-full-over e = nope (cc)
-
-full-within : (l w end : ℕ) (a : ℕ) (h' : Held) → Full ≡ Next a h' → (slot_words * h'.count ≤ l) × (h'.waiting ≤ w + 1) × (a ≡ end)
-full-within l w end a h' e = nope (cc)
+full-within : (l w end : ℕ) (x : Next) → ◌≡◌ {A = Result Next Refusal} (Err TableFull) (Ok x) → (slot_words * x.held.count ≤ l) × (x.held.waiting ≤ w + 1) × (x.at ≡ end)
+full-within l w end x e = nope (cc)
 
 module _ (log t pd : List ℕ) (h : Held) (s : Slot) (tr : slot_words * h.count ≤ length t) (pr : slot_words * h.waiting + slot_words ≤ length pd) where
   abbrev ps : List Slot
@@ -106,11 +101,11 @@ module _ (log t pd : List ℕ) (h : Held) (s : Slot) (tr : slot_words * h.count 
   abbrev step : List Slot → Option (List Slot)
   step r = step_in (length t / slot_words) item (place_in log (key_of log s) r) r
 
-  answer-next : {t' pd' : List ℕ} {h' : Held} (end : ℕ) (r : List Slot) (r' : List Slot) → Some r' ≡ step r → Holds log t' pd' h' r' → Answers log t' pd' end (Next end h') (step r)
-  answer-next {t'} {pd'} {h'} end r r' e w = subst (λ (o : Option (List Slot)). Answers log t' pd' end (Next end h') o) e (answers_next w)
+  answer-next : {t' pd' : List ℕ} {h' : Held} (end : ℕ) (r : List Slot) (r' : List Slot) → Some r' ≡ step r → Holds log t' pd' h' r' → Answers log t' pd' end (Ok (record { at = end; held = h' })) (step r)
+  answer-next {t'} {pd'} {h'} end r r' e w = subst (λ (o : Option (List Slot)). Answers log t' pd' end (Ok (record { at = end; held = h' })) o) e (answers_next w)
 
-  answer-full : {t' pd' : List ℕ} (end : ℕ) (r : List Slot) → None ≡ step r → Answers log t' pd' end Full (step r)
-  answer-full {t'} {pd'} end r e = subst (λ (o : Option (List Slot)). Answers log t' pd' end Full o) e answers-full
+  answer-full : {t' pd' : List ℕ} (end : ℕ) (r : List Slot) → None ≡ step r → Answers log t' pd' end (Err TableFull) (step r)
+  answer-full {t'} {pd'} end r e = subst (λ (o : Option (List Slot)). Answers log t' pd' end (Err TableFull) o) e answers-full
 
   -- ---- an entry with a value whose key does not wait
 
@@ -126,14 +121,13 @@ module _ (log t pd : List ℕ) (h : Held) (s : Slot) (tr : slot_words * h.count 
     entered-fits = entered-within t f ss (rw (slots_length h.count t) tr) (rw (slots_length h.count t) (table-among key ef)) s
 
     pub new_at : (j : ℕ) {n : ℕ} {t' : List ℕ} → f ≡ Ok j → Becomes t h.count (entered t s f (slots_of h.count t)) t' n
-        → Enters log t pd h (record { slot = s; gone = false }) end (Next end (record { count = n; waiting = h.waiting; live = h.live })) t' pd
+        → Enters log t pd h (record { slot = s; gone = false }) end (Ok (record { at = end; held = record { count = n; waiting = h.waiting; live = h.live } })) t' pd
     new_at j {n} {t'} e b = record {
       within = on_within end (record { count = n; waiting = h.waiting; live = h.live }) (length t) h.waiting (omega (arith, b.count, entered-fits)) (omega arith);
-      going = next-over end (record { count = n; waiting = h.waiting; live = h.live });
       exact = exactly;
     }
       where
-        exactly : (r : List Slot) → Holds log t pd h r → Answers log t' pd end (Next end (record { count = n; waiting = h.waiting; live = h.live })) (step r)
+        exactly : (r : List Slot) → Holds log t pd h r → Answers log t' pd end (Ok (record { at = end; held = record { count = n; waiting = h.waiting; live = h.live } })) (step r)
         exactly r w =
             let u : look log (key_of log s) r ≡ Some (get_or ss j free_slot) = key-looks log s w.merges (no_wait w) (at-look log (key_of log s) ss w.merges.table ef' j e) in
             let x : entered t s f ss ≡ put_at s (place_in log (key_of log s) ss) ss = entered-room t s f ss (rw e)
@@ -147,26 +141,18 @@ module _ (log t pd : List ℕ) (h : Held) (s : Slot) (tr : slot_words * h.count 
       fresh : {r : List Slot} → Holds log t pd h r → look log (key_of log s) r ≡ None
       fresh w = key-looks log s w.merges (no_wait w) (before-look log (key_of log s) ss w.merges.table ef' j e)
 
-      pub new_full : length t / slot_words ≤ h.live → Enters log t pd h (record { slot = s; gone = false }) end Full t pd
+      pub new_full : length t / slot_words ≤ h.live → Enters log t pd h (record { slot = s; gone = false }) end (Err TableFull) t pd
       new_full q = record {
         within = full-within (length t) h.waiting end;
-        going = full-over;
         exact = λ r w. answer-full end r (step-full log (key_of log s) r (length t / slot_words) s (fresh w) (omega (arith, w.counted)));
       }
 
       module _ (q : h.live < length t / slot_words) where
         pub new_last : {c : Bool} {n : ℕ} {t' : List ℕ} → c ≡ pick (ltb j h.count) false (ltb h.count (length t / slot_words)) → c ≡ true
-            → Becomes t h.count (entered t s (Err j) (slots_of h.count t)) t' n
-            → Enters log t pd h (record { slot = s; gone = false }) end (Next end (record { count = n; waiting = h.waiting; live = h.live + 1 })) t' pd
+            → Becomes t h.count (entered t s f (slots_of h.count t)) t' n
+            → Enters log t pd h (record { slot = s; gone = false }) end (Ok (record { at = end; held = record { count = n; waiting = h.waiting; live = h.live + 1 } })) t' pd
         new_last {c} {n} {t'} ec tc b = record {
-          within = on_within end (record { count = n; waiting = h.waiting; live = h.live + 1 }) (length t) h.waiting (omega (
-            arith,
-            b.count,
-            ap (λ
-                (x : Result ℕ ℕ). length (entered t s x ss)) e,
-            entered-fits,
-          )) (omega arith);
-          going = next-over end (record { count = n; waiting = h.waiting; live = h.live + 1 });
+          within = on_within end (record { count = n; waiting = h.waiting; live = h.live + 1 }) (length t) h.waiting (omega (arith, b.count, entered-fits)) (omega arith);
           exact = exactly;
         }
           where
@@ -177,28 +163,24 @@ module _ (log t pd : List ℕ) (h : Held) (s : Slot) (tr : slot_words * h.count 
             roomy : room_at t f ss ≡ true
             roomy = rw (e, slots_length h.count t) (room (ltb j h.count) (sym ec ∙ tc))
 
-            b' : Becomes t h.count (entered t s f ss) t' n
-            b' = subst (λ (x : Result ℕ ℕ). Becomes t h.count (entered t s x ss) t' n) (sym e) b
-
-            exactly : (r : List Slot) → Holds log t pd h r → Answers log t' pd end (Next end (record { count = n; waiting = h.waiting; live = h.live + 1 })) (step r)
+            exactly : (r : List Slot) → Holds log t pd h r → Answers log t' pd end (Ok (record { at = end; held = record { count = n; waiting = h.waiting; live = h.live + 1 } })) (step r)
             exactly r w =
                 let u : look log (key_of log s) r ≡ None = fresh w in
                 let x : entered t s f ss ≡ put_at s (place_in log (key_of log s) ss) ss = entered-room t s f ss roomy
                 ∙ ap (λ (y : Result ℕ ℕ). put_at s y ss) (found_in log (key_of log s) ss w.merges.table ef') in
                 let l : length (put_at s (place_in log (key_of log s) r) r) ≡ length r + 1 = put_fresh log (key_of log s) r s (place_in log (key_of log s) r) refl u in
                 answer-next end r (put_at s (place_in log (key_of log s) r) r) (step_new log (key_of log s) r (length t / slot_words) s u (omega (arith, w.counted)))
-                (hold_table n (h.live + 1) t' (put_at s (place_in log (key_of log s) ss) ss) w (rw x at b') (omega (arith, entered-fits, ap length x)) (put-table log s
+                (hold_table n (h.live + 1) t' (put_at s (place_in log (key_of log s) ss) ss) w (rw x at b) (omega (arith, entered-fits, ap length x)) (put-table log s
                 w.merges (no_wait w)) (omega (arith, w.counted)) (omega (arith, w.counted)))
 
         pub new_waits : {n : ℕ} {pd' : List ℕ} → Becomes pd h.waiting (entered pd s (Err i) (slots_of h.waiting pd)) pd' n
-            → Enters log t pd h (record { slot = s; gone = false }) end (Next end (record { count = h.count; waiting = n; live = h.live + 1 })) t pd'
+            → Enters log t pd h (record { slot = s; gone = false }) end (Ok (record { at = end; held = record { count = h.count; waiting = n; live = h.live + 1 } })) t pd'
         new_waits {n} {pd'} b = record {
           within = on_within end (record { count = h.count; waiting = n; live = h.live + 1 }) (length t) h.waiting tr (pend_most (Err i) b (pend_among (key_of log s) eb));
-          going = next-over end (record { count = h.count; waiting = n; live = h.live + 1 });
           exact = exactly;
         }
           where
-            exactly : (r : List Slot) → Holds log t pd h r → Answers log t pd' end (Next end (record { count = h.count; waiting = n; live = h.live + 1 })) (step r)
+            exactly : (r : List Slot) → Holds log t pd h r → Answers log t pd' end (Ok (record { at = end; held = record { count = h.count; waiting = n; live = h.live + 1 } })) (step r)
             exactly r w =
                 let u : look log (key_of log s) r ≡ None = fresh w in
                 let l : length (put_at s (place_in log (key_of log s) r) r) ≡ length r + 1 = put_fresh log (key_of log s) r s (place_in log (key_of log s) r) refl u in
@@ -239,22 +221,20 @@ module _ (log t pd : List ℕ) (h : Held) (s : Slot) (tr : slot_words * h.count 
 
     module _ {c : Bool} (ec : c ≡ waits_gone (slots_of h.waiting pd) f) where
       module _ (g : is_gone s ≡ false) (end : ℕ) where
-        pub set_full : c ≡ true → length t / slot_words ≤ h.live → Enters log t pd h (record { slot = s; gone = false }) end Full t pd
+        pub set_full : c ≡ true → length t / slot_words ≤ h.live → Enters log t pd h (record { slot = s; gone = false }) end (Err TableFull) t pd
         set_full tc q = record {
           within = full-within (length t) h.waiting end;
-          going = full-over;
           exact = λ r w. answer-full end r (step-full log (key_of log s) r (length t / slot_words) s (gone-look ec tc w) (omega (arith, w.counted)));
         }
 
         pub set-again : {n : ℕ} {pd' : List ℕ} → c ≡ true → h.live < length t / slot_words → Becomes pd h.waiting (entered pd s f (slots_of h.waiting pd)) pd' n
-            → Enters log t pd h (record { slot = s; gone = false }) end (Next end (record { count = h.count; waiting = n; live = h.live + 1 })) t pd'
+            → Enters log t pd h (record { slot = s; gone = false }) end (Ok (record { at = end; held = record { count = h.count; waiting = n; live = h.live + 1 } })) t pd'
         set-again {n} {pd'} tc q b = record {
           within = on_within end (record { count = h.count; waiting = n; live = h.live + 1 }) (length t) h.waiting tr (pend_most f b among);
-          going = next-over end (record { count = h.count; waiting = n; live = h.live + 1 });
           exact = exactly;
         }
           where
-            exactly : (r : List Slot) → Holds log t pd h r → Answers log t pd' end (Next end (record { count = h.count; waiting = n; live = h.live + 1 })) (step r)
+            exactly : (r : List Slot) → Holds log t pd h r → Answers log t pd' end (Ok (record { at = end; held = record { count = h.count; waiting = n; live = h.live + 1 } })) (step r)
             exactly r w =
                 let u : look log (key_of log s) r ≡ None = gone-look ec tc w in
                 let l : length (put_at s (place_in log (key_of log s) r) r) ≡ length r + 1 = put_fresh log (key_of log s) r s (place_in log (key_of log s) r) refl u in
@@ -263,14 +243,13 @@ module _ (log t pd : List ℕ) (h : Held) (s : Slot) (tr : slot_words * h.count 
                 (omega (arith, w.counted)))
 
         pub set-over : (i : ℕ) {n : ℕ} {pd' : List ℕ} → f ≡ Ok i → c ≡ false → Becomes pd h.waiting (entered pd s f (slots_of h.waiting pd)) pd' n
-            → Enters log t pd h (record { slot = s; gone = false }) end (Next end (record { count = h.count; waiting = n; live = h.live })) t pd'
+            → Enters log t pd h (record { slot = s; gone = false }) end (Ok (record { at = end; held = record { count = h.count; waiting = n; live = h.live } })) t pd'
         set-over i {n} {pd'} q tc b = record {
           within = on_within end (record { count = h.count; waiting = n; live = h.live }) (length t) h.waiting tr (pend_most f b among);
-          going = next-over end (record { count = h.count; waiting = n; live = h.live });
           exact = exactly;
         }
           where
-            exactly : (r : List Slot) → Holds log t pd h r → Answers log t pd' end (Next end (record { count = h.count; waiting = n; live = h.live })) (step r)
+            exactly : (r : List Slot) → Holds log t pd h r → Answers log t pd' end (Ok (record { at = end; held = record { count = h.count; waiting = n; live = h.live } })) (step r)
             exactly r w =
                 let x : Slot = get_or ps i free_slot in
                 let u : look log (key_of log s) r ≡ Some x = live-look i q ec tc w in

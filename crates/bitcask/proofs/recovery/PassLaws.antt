@@ -1,7 +1,7 @@
 -- Laws of entries passed: what holds before each, and what they come to. Assumes nothing.
 use Prim.Native.Nat.{ℕ, zero, suc, ◌-◌, ◌*◌, ◌/◌, ◌≤◌, ◌<◌}
 use mathlib.Core.Path.{◌≡◌, refl, sym, ap, ◌∙◌, subst}
-use Rattle.std.specs.Prelude.{Option, None, Some}
+use Rattle.std.specs.Prelude.{Result, Ok, Err, Option, None, Some}
 use mathlib.Core.List.{List, [], ◌∷◌}
 use native.Mathlib.Omega.{arith}
 use lib.ListN.{length, replicate}
@@ -15,12 +15,13 @@ use Rattle.bitcask.specs.merging.Merge.{Merges}
 use Rattle.bitcask.proofs.merging.MergeLaws.{merges_unique}
 use Rattle.bitcask.proofs.keydir.SlotLaws.{slots_length}
 use Rattle.bitcask.specs.declared.recovery.waiting.Held.{Held}
-use Rattle.bitcask.specs.declared.recovery.waiting.Took.{Took}
-use Rattle.bitcask.specs.declared.recovery.waiting.Took.TheVariants.{Over, Full, Next}
-use Rattle.bitcask.specs.declared.recovery.passing.Passed.TheVariants.{Full as NoRoom, On}
+use Rattle.bitcask.specs.declared.recovery.waiting.Next.{Next}
+use Rattle.bitcask.specs.declared.recovery.passing.Passed.{Passed}
+use Rattle.keycode.specs.declared.refusal.Refusal.{Refusal}
+use Rattle.keycode.specs.declared.refusal.Refusal.TheVariants.{TableFull}
 use Rattle.bitcask.specs.recovery.Recover.{Item, item_of, next, items_of, ends, step_in, then_run, run}
 use Rattle.bitcask.specs.recovery.Waiting.{max_waiting, Holds, Enters, Settles}
-use Rattle.bitcask.specs.recovery.Passing.{TakesEntry, Tidy, passed_by, Passes}
+use Rattle.bitcask.specs.recovery.Passing.{standing, TakesEntry, Tidy, passed_by, GoesOver, Passes}
 use Rattle.bitcask.specs.recovery.Promises.{opened_words}
 use Rattle.bitcask.proofs.recovery.ItemLaws.{item_stands}
 use Rattle.bitcask.proofs.recovery.SettleLaws.{merges_alone}
@@ -123,18 +124,27 @@ module _ {log : List ℕ} {used : ℕ} {t : List ℕ} {n start most : ℕ} {x pd
       ∙ ap (λ (k : ℕ). then_run (step_in k i (place_in log (key_of log i.slot) r) r) (λ z. run log (length t / slot_words) (items_of (left - 1) log used (next i)) z)) (sym cap_same)
       ∙ ap (λ (z : Option (List Slot)). then_run z (λ y. run log (length t / slot_words) (items_of (left - 1) log used (next i)) y)) f
 
-  module _ (pos : 0 < left) {o : Took} {x' pd' : List ℕ} (v : TakesEntry log used x pd h at o x' pd') where
-    stands : (a : Option Item) → item_of (entry_at log used at) at ≡ a → (o ≡ Over → ⊥) → (i : Item) × (item_of (entry_at log used at) at ≡ Some i)
+  module _ (pos : 0 < left) {o : Result (Option Next) Refusal} {x' pd' : List ℕ} (v : TakesEntry log used x pd h at o x' pd') where
+    stands : (a : Option Item) → item_of (entry_at log used at) at ≡ a → (o ≡ Ok None → ⊥) → (i : Item) × (item_of (entry_at log used at) at ≡ Some i)
     stands None e f = absurd (f (v.stop e).0)
     stands (Some i) e f = (i, e)
 
-    pub passing_next : (a : ℕ) (h' : Held) → h.waiting < max_waiting → length x' ≡ length x → length pd' ≡ length pd → o ≡ Next a h' → Passing log used t n start most x' pd' a h' (left - 1)
-    passing_next a h' few lx lp e = go (stands (item_of (entry_at log used at) at) refl (λ q. nope (cc)))
+    -- what stands there has been taken
+    taken : (x : Next) (a : Result Next Refusal) → standing a ≡ Ok (Some x) → a ≡ Ok x
+    taken x (Ok y) e = cc
+    taken x (Err r) e = nope (cc)
+
+    refused : (f : Refusal) (a : Result Next Refusal) → standing a ≡ Err f → a ≡ Err f
+    refused f (Ok y) e = nope (cc)
+    refused f (Err r) e = cc
+
+    pub passing_next : (s : Next) → h.waiting < max_waiting → length x' ≡ length x → length pd' ≡ length pd → o ≡ Ok (Some s) → Passing log used t n start most x' pd' s.at s.held (left - 1)
+    passing_next s few lx lp e = go (stands (item_of (entry_at log used at) at) refl (λ q. nope (cc)))
       where
-        onward : (i : Item) → item_of (entry_at log used at) at ≡ Some i → a ≡ next i → Enters log x pd h i (next i) o x' pd' → (ss : List Slot)
-            → Onward log used (length t / slot_words) start most ss x pd at h left → Onward log used (length t / slot_words) start most ss x' pd' a h' (left - 1)
+        onward : (i : Item) → item_of (entry_at log used at) at ≡ Some i → s.at ≡ next i → Enters log x pd h i (next i) (Ok s) x' pd' → (ss : List Slot)
+            → Onward log used (length t / slot_words) start most ss x pd at h left → Onward log used (length t / slot_words) start most ss x' pd' s.at s.held (left - 1)
         onward i q ea en ss y =
-            let z = next-says (en.exact y.slots y.holds) a h' e in
+            let z = next-says (en.exact y.slots y.holds) s refl in
             let it = items_one log used left at i pos q in
             record {
               slots = z.0;
@@ -144,20 +154,22 @@ module _ {log : List ℕ} {used : ℕ} {t : List ℕ} {n start most : ℕ} {x pd
               spare = spare_one i ea it ∙ y.spare;
             }
           where
-            ended_one : (i : Item) → a ≡ next i → items_of left log used at ≡ i ∷ items_of (left - 1) log used (next i) → ends a (items_of (left - 1) log used a) ≡ ends at (items_of left log used at)
+            ended_one : (i : Item) → s.at ≡ next i → items_of left log used at ≡ i ∷ items_of (left - 1) log used (next i)
+                → ends s.at (items_of (left - 1) log used s.at) ≡ ends at (items_of left log used at)
             ended_one i ea it = ap (λ (k : ℕ). ends k (items_of (left - 1) log used k)) ea ∙ sym (ap (ends at) it ∙ ends_one at i (items_of (left - 1) log used (next i)))
 
-            spare_one : (i : Item) → a ≡ next i → items_of left log used at ≡ i ∷ items_of (left - 1) log used (next i)
-                → left - 1 - length (items_of (left - 1) log used a) ≡ left - length (items_of left log used at)
+            spare_one : (i : Item) → s.at ≡ next i → items_of left log used at ≡ i ∷ items_of (left - 1) log used (next i)
+                → left - 1 - length (items_of (left - 1) log used s.at) ≡ left - length (items_of left log used at)
             spare_one i ea it =
                 let p = ap length it in
                 let q = ap (λ (k : ℕ). length (items_of (left - 1) log used k)) ea in omega arith
 
-        go : (i : Item) × (item_of (entry_at log used at) at ≡ Some i) → Passing log used t n start most x' pd' a h' (left - 1)
+        go : (i : Item) × (item_of (entry_at log used at) at ≡ Some i) → Passing log used t n start most x' pd' s.at s.held (left - 1)
         go p =
             let i : Item = p.0 in
-            let en : Enters log x pd h i (next i) o x' pd' = v.entry i p.1 in
-            let b = en.within a h' e in
+            let k = v.entry i p.1 in
+            let en : Enters log x pd h i (next i) (Ok s) x' pd' = subst (λ (a : Result Next Refusal). Enters log x pd h i (next i) a x' pd') (taken s k.0 (sym k.1 ∙ e)) k.2 in
+            let b = en.within s refl in
             record {
               long = lx ∙ w.long;
               inside = omega (arith, b.0, w.long);
@@ -167,41 +179,49 @@ module _ {log : List ℕ} {used : ℕ} {t : List ℕ} {n start most : ℕ} {x pd
               exact = λ ss y. onward i p.1 b.2 en ss (w.exact ss y);
             }
 
-    pub passing_full : {z : List ℕ} → z ≡ replicate (length x') 0 → length x' ≡ length x → o ≡ Full → Passes log used t n start most NoRoom z
-    passing_full {z} ez lx e = go (stands (item_of (entry_at log used at) at) refl (λ q. nope (cc)))
+    pub passing_full : (f : Refusal) → o ≡ Err f → GoesOver log used t n start most (Err f) x'
+    passing_full f e = go (stands (item_of (entry_at log used at) at) refl (λ q. nope (cc)))
       where
-        no_run : (i : Item) → item_of (entry_at log used at) at ≡ Some i → (ss : List Slot) → Tidy log t n ss → run log (length t / slot_words) (items_of most log used start) ss ≡ None
+        no_run : (i : Item) → item_of (entry_at log used at) at ≡ Some i → (ss : List Slot) → Tidy log t n ss
+            → (run log (length t / slot_words) (items_of most log used start) ss ≡ None) × (f ≡ TableFull)
         no_run i q ss y =
             let u = w.exact ss y in
-            sym u.runs ∙ one_run i pos q u.slots None (full-says ((v.entry i q).exact u.slots u.holds) e)
+            let k = v.entry i q in
+            let d = full-says (k.2.exact u.slots u.holds) (refused f k.0 (sym k.1 ∙ e)) in
+            (sym u.runs ∙ one_run i pos q u.slots None d.0, d.1)
 
-        go : (i : Item) × (item_of (entry_at log used at) at ≡ Some i) → Passes log used t n start most NoRoom z
+        go : (i : Item) × (item_of (entry_at log used at) at ≡ Some i) → GoesOver log used t n start most (Err f) x'
         go p = record {
-          within = λ a m l q. nope (cc);
-          answer = λ ss y. rw (no_run p.0 p.1 ss y);
-          table = λ ss y. rw (no_run p.0 p.1 ss y) (ez ∙ ap (λ (k : ℕ). replicate k 0) (lx ∙ w.long));
+          within = λ a q. nope (cc);
+          answer = λ ss y. (let d = no_run p.0 p.1 ss y in rw d.0 (ap (λ (r : Refusal). Err r) d.1));
+          table = λ ss y rs q. nope (cc ((no_run p.0 p.1 ss y).0));
         }
 
-    over_none : o ≡ Over → (a : Option Item) → item_of (entry_at log used at) at ≡ a → a ≡ None
-    over_none e None q = refl
-    over_none e (Some i) q = absurd ((v.entry i q).going e)
+    none_there : o ≡ Ok None → (a : Option Item) → item_of (entry_at log used at) at ≡ a → a ≡ None
+    none_there e None q = refl
+    none_there e (Some i) q = (let k = v.entry i q in absurd (some_there k.0 (sym k.1 ∙ e)))
+      where
+        some_there : (a : Result Next Refusal) → standing a ≡ Ok None → ⊥
+        some_there (Ok y) e = nope (cc)
+        some_there (Err r) e = nope (cc)
 
-    pub passing_over : o ≡ Over → (item_of (entry_at log used at) at ≡ None) × (x' ≡ x) × (pd' ≡ pd)
-    passing_over e = let q = over_none e (item_of (entry_at log used at) at) refl in (q, (v.stop q).1, (v.stop q).2)
+    pub passing_over : o ≡ Ok None → (item_of (entry_at log used at) at ≡ None) × (x' ≡ x) × (pd' ≡ pd)
+    passing_over e = let q = none_there e (item_of (entry_at log used at) at) refl in (q, (v.stop q).1, (v.stop q).2)
 
   -- the end: nothing waits, and no entry is left, or none may be passed
   pub passing_end : items_of left log used at ≡ [] → {h' : Held} {x' : List ℕ} → length x' ≡ length x → h'.waiting ≡ 0 → Settles log x pd h h' x'
-      → Passes log used t n start most (On at h'.count left) x'
+      → GoesOver log used t n start most (Ok (record { at = at; count = h'.count; left = left })) x'
   passing_end z {h'} {x'} l e v = record {
-    within = λ a m k q. (let q₁ : at ≡ a = cc in let q₂ : h'.count ≡ m = cc in (subst (λ (i : ℕ). i ≤ used) q₁ w.within, omega (arith, v.within, w.long)));
+    within = λ p q. (let f : ◌≡◌ {A = Passed} (record { at = at; count = h'.count; left = left }) p = cc in
+        subst (λ (y : Passed). (y.at ≤ used) × (slot_words * y.count ≤ length t)) f (w.within, omega (arith, v.within, w.long)));
     answer = λ ss y. (ended ss (w.exact ss y)).0;
-    table = λ ss y. (ended ss (w.exact ss y)).1;
+    table = λ ss y rs q. (let d = ended ss (w.exact ss y) in let f : d.1 ≡ rs = cc (d.2, q) in d.3 ∙ ap (table_of (length t)) f);
   }
     where
       ended : (ss : List Slot) → Onward log used (length t / slot_words) start most ss x pd at h left
-          → (On at h'.count left
+          → (Ok (record { at = at; count = h'.count; left = left })
           ≡ passed_by (run log (length t / slot_words) (items_of most log used start) ss) (ends start (items_of most log used start)) (most - length (items_of most log used start)))
-          × (x' ≡ opened_words (length t) (run log (length t / slot_words) (items_of most log used start) ss))
+          × (r : List Slot) × (run log (length t / slot_words) (items_of most log used start) ss ≡ Some r) × (x' ≡ table_of (length t) r)
       ended ss u =
           let r : List Slot = u.slots in
           let hr : Holds log x' pd h' r = v.exact r u.holds in
@@ -210,18 +230,36 @@ module _ {log : List ℕ} {used : ℕ} {t : List ℕ} {n start most : ℕ} {x pd
           let d : most - length (items_of most log used start) ≡ left = sym u.spare ∙ spare-over left z in
           let s : slots_of h'.count x' ≡ r = settled_slots log x' pd h' r hr e in
           let c : h'.count ≡ length r = sym (slots_length h'.count x') ∙ ap length s in
-          (rw (p, q, d) (ap (λ (k : ℕ). On at k left) c), hr.words ∙ rw (s, l ∙ w.long, p))
+          (rw (p, q, d) (ap (λ (k : ℕ). Ok (record { at = at; count = k; left = left })) c), r, p, hr.words ∙ rw (s, l ∙ w.long) refl)
 
   -- the end at an offset where no entry stands
-  pub passing_stop : (pos : 0 < left) {o : Took} {x₁ pd₁ : List ℕ} → TakesEntry log used x pd h at o x₁ pd₁ → o ≡ Over → {h' : Held} {x' : List ℕ}
+  pub passing_stop : (pos : 0 < left) {o : Result (Option Next) Refusal} {x₁ pd₁ : List ℕ} → TakesEntry log used x pd h at o x₁ pd₁ → o ≡ Ok None → {h' : Held} {x' : List ℕ}
       → length x' ≡ length x₁ → h'.waiting ≡ 0 → Settles log x₁ pd₁ h h' x'
-      → Passes log used t n start most (On at h'.count left) x'
+      → GoesOver log used t n start most (Ok (record { at = at; count = h'.count; left = left })) x'
   passing_stop pos {o} {x₁} {pd₁} v e {h'} {x'} l q z =
       let p = passing_over pos v e in
       passing_end (items-none log used left at p.0) (l ∙ ap length p.1) q
       (subst (λ (y : List ℕ). Settles log y pd h h' x') p.1 (subst (λ (y : List ℕ). Settles log x₁ y h h' x') p.2 z))
 
   -- or where no more may be passed
-  pub passing_spent : left ≤ 0 → {h' : Held} {x' : List ℕ} → length x' ≡ length x → h'.waiting ≡ 0 → Settles log x pd h h' x' → Passes log used t n start most (On at h'.count left) x'
+  pub passing_spent : left ≤ 0 → {h' : Held} {x' : List ℕ} → length x' ≡ length x → h'.waiting ≡ 0 → Settles log x pd h h' x'
+      → GoesOver log used t n start most (Ok (record { at = at; count = h'.count; left = left })) x'
   unfolding items_of
   passing_spent z l q v = let e : left ≡ 0 = omega arith in passing_end (ap (λ (k : ℕ). items_of k log used at) e) l q v
+
+-- ---- and with a table that has no room for one cleared
+
+module _ (log : List ℕ) (used : ℕ) (t : List ℕ) (n start most : ℕ) {x : List ℕ} where
+  pub passes_on : {p : Passed} → GoesOver log used t n start most (Ok p) x → Passes log used t n start most (Ok p) x
+  passes_on {p} g = record { within = g.within; answer = g.answer; table = λ ss y. go ss y (run log (length t / slot_words) (items_of most log used start) ss) refl }
+    where
+      go : (ss : List Slot) → Tidy log t n ss → (o : Option (List Slot)) → run log (length t / slot_words) (items_of most log used start) ss ≡ o → x ≡ opened_words (length t) o
+      go ss y None e = nope (cc (rw e at (g.answer ss y)))
+      go ss y (Some rs) e = g.table ss y rs e
+
+  pub passes_cleared : {f : Refusal} {z : List ℕ} → GoesOver log used t n start most (Err f) x → z ≡ replicate (length x) 0 → length x ≡ length t → Passes log used t n start most (Err f) z
+  passes_cleared {f} {z} g ez l = record { within = g.within; answer = g.answer; table = λ ss y. go ss y (run log (length t / slot_words) (items_of most log used start) ss) refl }
+    where
+      go : (ss : List Slot) → Tidy log t n ss → (o : Option (List Slot)) → run log (length t / slot_words) (items_of most log used start) ss ≡ o → z ≡ opened_words (length t) o
+      go ss y None e = ez ∙ ap (λ (k : ℕ). replicate k 0) l
+      go ss y (Some rs) e = nope (cc (rw e at (g.answer ss y)))

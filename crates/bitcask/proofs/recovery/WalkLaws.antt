@@ -23,7 +23,6 @@ use Rattle.bitcask.specs.recovery.Agree.{fit}
 use Rattle.bitcask.specs.recovery.Promises.{open_answer, open_table, Walks, Opens, opened_words}
 use Rattle.bitcask.proofs.recovery.AgreeLaws.{Sound, fit-sound}
 use Rattle.bitcask.specs.declared.recovery.passing.Passed.{Passed}
-use Rattle.bitcask.specs.declared.recovery.passing.Passed.TheVariants.{Full, On}
 use Rattle.bitcask.specs.recovery.Passing.{Tidy, passed_by, Passes}
 
 -- ---- one step with room
@@ -60,13 +59,13 @@ all-items log used = let e : used ≡ used - 0 = omega arith in ap (λ (k : ℕ)
 tidy_clear : (log t : List ℕ) → t ≡ replicate (length t) 0 → Tidy log t 0 []
 tidy_clear log t e = record { words = e ∙ table_empty (length t); count = refl; room = omega arith; sorted = sorted_none }
 
-full-none : (o : Option (List Slot)) (a l : ℕ) → passed_by o a l ≡ Full → o ≡ None
-full-none None a l e = refl
+full-none : (o : Option (List Slot)) (a l : ℕ) {f : Refusal} → passed_by o a l ≡ Err f → (o ≡ None) × (f ≡ TableFull)
+full-none None a l e = (refl, cc)
 full-none (Some ss) a l e = nope (cc)
 
-on_some : (o : Option (List Slot)) (a l b m k : ℕ) → passed_by o a l ≡ On b m k → (ss : List Slot) × (o ≡ Some ss) × (a ≡ b)
-on_some None a l b m k e = nope (cc)
-on_some (Some ss) a l b m k e = (ss, refl, cc)
+on_some : (o : Option (List Slot)) (a l : ℕ) (p : Passed) → passed_by o a l ≡ Ok p → (ss : List Slot) × (o ≡ Some ss) × (a ≡ p.at)
+on_some None a l p e = nope (cc)
+on_some (Some ss) a l p e = (let f : ◌≡◌ {A = Passed} (record { at = a; count = length ss; left = l }) p = cc in (ss, refl, ap (λ (x : Passed). x.at) f))
 
 walks_full : (log : List ℕ) (used n : ℕ) (t' : List ℕ) (o : Option (List Slot)) → run log (n / slot_words) (items log used 0) [] ≡ o → o ≡ None
     → t' ≡ opened_words n o → Walks log used n (Err TableFull) t'
@@ -79,23 +78,23 @@ walks_done : (log : List ℕ) (used n : ℕ) (t' : List ℕ) (o : Option (List S
 walks_done log used n t' None ss a q e f w = nope (cc)
 walks_done log used n t' (Some rs) ss a q e f w = record { answer = rw (q, f); table = rw q w }
 
-module _ (log : List ℕ) (used : ℕ) (t : List ℕ) (e : t ≡ replicate (length t) 0) {r : Passed} {t' : List ℕ} (w : Passes log used t 0 0 used r t') where
+module _ (log : List ℕ) (used : ℕ) (t : List ℕ) (e : t ≡ replicate (length t) 0) {r : Result Passed Refusal} {t' : List ℕ} (w : Passes log used t 0 0 used r t') where
   same : run log (length t / slot_words) (items log used 0) [] ≡ run log (length t / slot_words) (items_of used log used 0) []
   same = ap (λ (is : List Item). run log (length t / slot_words) is []) (sym (all-items log used))
 
-  pub walk_refused : r ≡ Full → Walks log used (length t) (Err TableFull) t'
-  walk_refused q =
+  pub walk_refused : {f : Refusal} → r ≡ Err f → Walks log used (length t) (Err f) t'
+  walk_refused {f} q =
       let y = tidy_clear log t e in
-      walks_full log used (length t) t' (run log (length t / slot_words) (items_of used log used 0) []) same
-      (full-none (run log (length t / slot_words) (items_of used log used 0) []) (ends 0 (items_of used log used 0)) (used - length (items_of used log used 0)) (sym
-      (w.answer [] y) ∙ q)) (w.table [] y)
+      let z = full-none (run log (length t / slot_words) (items_of used log used 0) []) (ends 0 (items_of used log used 0)) (used - length (items_of used log used 0)) (sym
+      (w.answer [] y) ∙ q) in
+      rw z.1 (walks_full log used (length t) t' (run log (length t / slot_words) (items_of used log used 0) []) same z.0 (w.table [] y))
 
-  pub walk_done : (a m l : ℕ) → r ≡ On a m l → Walks log used (length t) (Ok (record { len = a })) t'
-  walk_done a m l q =
+  pub walk_done : (p : Passed) → r ≡ Ok p → Walks log used (length t) (Ok (record { len = p.at })) t'
+  walk_done p q =
       let y = tidy_clear log t e in
-      let z = on_some (run log (length t / slot_words) (items_of used log used 0) []) (ends 0 (items_of used log used 0)) (used - length (items_of used log used 0)) a m l
+      let z = on_some (run log (length t / slot_words) (items_of used log used 0) []) (ends 0 (items_of used log used 0)) (used - length (items_of used log used 0)) p
       (sym (w.answer [] y) ∙ q) in
-      walks_done log used (length t) t' (run log (length t / slot_words) (items_of used log used 0) []) z.0 a same z.1 (ap (ends 0) (sym (all-items log used)) ∙ z.2) (w.table [] y)
+      walks_done log used (length t) t' (run log (length t / slot_words) (items_of used log used 0) []) z.0 p.at same z.1 (ap (ends 0) (sym (all-items log used)) ∙ z.2) (w.table [] y)
 
 -- ---- opening, by the test of the sizes and the walk
 

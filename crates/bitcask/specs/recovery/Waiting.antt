@@ -6,8 +6,9 @@ use Rattle.bitcask.specs.keydir.Slots.{slot_words, free_slot, slots_of, table_of
 use Rattle.bitcask.specs.keydir.Place.{place_in, cut_at}
 use Rattle.bitcask.specs.merging.Merge.{is_gone, Merges}
 use Rattle.bitcask.specs.declared.recovery.waiting.Held.{Held}
-use Rattle.bitcask.specs.declared.recovery.waiting.Took.{Took}
-use Rattle.bitcask.specs.declared.recovery.waiting.Took.TheVariants.{Over, Full, Next}
+use Rattle.bitcask.specs.declared.recovery.waiting.Next.{Next}
+use Rattle.keycode.specs.declared.refusal.Refusal.{Refusal}
+use Rattle.keycode.specs.declared.refusal.Refusal.TheVariants.{TableFull}
 use Rattle.bitcask.specs.recovery.Recover.{Item, step_in}
 
 -- how many changes wait at most
@@ -27,14 +28,13 @@ pub record Holds (log t pd : List ℕ) (h : Held) (r : List Slot) : Type 0 where
   pub fits : length r ≤ length t / slot_words
 
 -- what came of an entry, by what it makes of the slots
-pub data Answers (log t pd : List ℕ) (end : ℕ) : Took → Option (List Slot) → Type 0 where
-  answers-full : Answers log t pd end Full None
-  answers_next : {h : Held} {r : List Slot} → Holds log t pd h r → Answers log t pd end (Next end h) (Some r)
+pub data Answers (log t pd : List ℕ) (end : ℕ) : Result Next Refusal → Option (List Slot) → Type 0 where
+  answers-full : Answers log t pd end (Err TableFull) None
+  answers_next : {h : Held} {r : List Slot} → Holds log t pd h r → Answers log t pd end (Ok (record { at = end; held = h })) (Some r)
 
 -- an entry that ends at an offset has been taken
-pub record Enters (log t pd : List ℕ) (h : Held) (i : Item) (end : ℕ) (o : Took) (t' pd' : List ℕ) : Type 0 where
-  pub within : (a : ℕ) (h' : Held) → o ≡ Next a h' → (slot_words * h'.count ≤ length t) × (h'.waiting ≤ h.waiting + 1) × (a ≡ end)
-  pub going : o ≡ Over → ⊥
+pub record Enters (log t pd : List ℕ) (h : Held) (i : Item) (end : ℕ) (o : Result Next Refusal) (t' pd' : List ℕ) : Type 0 where
+  pub within : (x : Next) → o ≡ Ok x → (slot_words * x.held.count ≤ length t) × (x.held.waiting ≤ h.waiting + 1) × (x.at ≡ end)
   pub exact : (r : List Slot) → Holds log t pd h r → Answers log t' pd' end o (step_in (length t / slot_words) i (place_in log (key_of log i.slot) r) r)
 
 -- a tombstone has been

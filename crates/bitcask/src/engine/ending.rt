@@ -10,7 +10,6 @@ ghost use Rattle.bitcask.specs.engine.Stores.{state_of, kept, SameLent};
 
 use crate::engine::change::moved;
 use crate::engine::mark::Mark;
-use crate::engine::row::wide;
 use crate::engine::span::Span;
 use crate::engine::spot::Spot;
 use crate::engine::store::Store;
@@ -23,8 +22,8 @@ fn tomb_at(log: &mut [u8], at: usize, s: Slot) -> usize
     requires { (at ≤ length log.old) × (length log.old ≤ max_log) }
     ensures { (record { log = log.new; used = result } ≡ tombed (record { log = log.old; used = at }) s) × (result ≤ length log.old) }
 {
-    let from = wide(s.place) + 7;
-    let len = wide(s.klen);
+    let from = s.key_at();
+    let len = s.klen as usize;
     if at < from + len {
         return at;
     }

@@ -9,13 +9,6 @@ use crate::engine::view::View;
 use crate::keydir::{key_of as slot_key, slot_at, value_of as slot_value};
 use keycode::Part;
 
-// A word as an index; its bound is what the sums below and those of a tombstone rest on.
-pub(crate) fn wide(x: u32) -> usize
-    ensures { (result ≡ x) × (result < 4294967296) }
-{
-    x as usize
-}
-
 impl<'a> View<'a> {
     pub fn key_at(&self, spot: Spot) -> &'a [u8]
         requires { rank spot (shown self.now) < length (shown self.now) }
@@ -39,7 +32,7 @@ impl<'a> View<'a> {
         let s = slot_at(self.table, spot.number);
         let key = slot_key(self.log, s);
         Part {
-            at: wide(s.place) + 7,
+            at: s.key_at(),
             len: key.len(),
         }
     }
@@ -53,7 +46,7 @@ impl<'a> View<'a> {
         let key = slot_key(self.log, s);
         let value = slot_value(self.log, s);
         Part {
-            at: wide(s.place) + 7 + key.len(),
+            at: s.key_at() + key.len(),
             len: value.len(),
         }
     }
@@ -63,6 +56,6 @@ impl<'a> View<'a> {
         requires { rank spot (shown self.now) < length (shown self.now) }
         ensures { result ≡ offset_of (row_at spot (shown self.now)) }
     {
-        wide(slot_at(self.table, spot.number).place).saturating_sub(1)
+        (slot_at(self.table, spot.number).place as usize).saturating_sub(1)
     }
 }

@@ -9,18 +9,6 @@ use keycode::number::put_number;
 // The value length -1, as its 32 bits.
 const GONE: u64 = 0xffff_ffff;
 
-// The bytes at `from` once more at `to`, which lies past them.
-fn copy_up(log: &mut [u8], from: usize, to: usize, len: usize)
-    requires { (from + len ≤ to) × (to + len ≤ length log.old) }
-    ensures { log.new ≡ put log.old to (take len (drop from log.old)) }
-{
-    let mut j = 0;
-    while j < len {
-        log[to + j] = log[from + j];
-        j += 1;
-    }
-}
-
 // A tombstone at `at` for the key at `from`.
 pub(crate) fn tomb_of(log: &mut [u8], at: usize, from: usize, len: usize)
     requires { (from + len ≤ at) × (at + 8 + len ≤ length log.old) × (length log.old ≤ max_log) }
@@ -28,5 +16,5 @@ pub(crate) fn tomb_of(log: &mut [u8], at: usize, from: usize, len: usize)
 {
     put_number(len as u64, 4, log, at);
     put_number(GONE, 4, log, at + 4);
-    copy_up(log, from, at + 8, len);
+    log.copy_within(from..from + len, at + 8);
 }

@@ -1,6 +1,6 @@
 // Walks from a place, one row at a time, as far as a bound admits keys: one search finds where to start, and no second one the end.
 ghost use Rattle.std.specs.Prelude.{◌≡◌, ◌≤◌, length};
-ghost use Rattle.bitcask.specs.read.Ranks.{admits_low as admits_low_by, admits_high as admits_high_by};
+ghost use Rattle.bitcask.specs.read.Ranks.{admits_low};
 ghost use Rattle.bitcask.specs.engine.Views.{shown};
 ghost use Rattle.bitcask.specs.engine.Spots.{rank};
 ghost use Rattle.bitcask.specs.engine.Walks.{near_rank, before_in, from_in};
@@ -11,22 +11,13 @@ use crate::engine::view::View;
 use keycode::compare;
 use std::cmp::Ordering;
 
-fn admits_low(bound: Bound, o: Ordering) -> bool
-    ensures { result ≡ admits_low_by bound o }
+// Whether a bound admits a key, by the order in which the key comes to a lower bound, or an upper bound to the key.
+fn admits(bound: Bound, o: Ordering) -> bool
+    ensures { result ≡ admits_low bound o }
 {
     match bound {
         Bound::Included => o.is_ge(),
         Bound::Excluded => o.is_gt(),
-        Bound::Unbounded => true,
-    }
-}
-
-fn admits_high(bound: Bound, o: Ordering) -> bool
-    ensures { result ≡ admits_high_by bound o }
-{
-    match bound {
-        Bound::Included => o.is_le(),
-        Bound::Excluded => o.is_lt(),
         Bound::Unbounded => true,
     }
 }
@@ -40,11 +31,8 @@ impl View<'_> {
         if spot.number == 0 {
             return None;
         }
-        let before = Spot {
-            number: spot.number - 1,
-        };
-        let o = compare(self.key_at(before), low);
-        if admits_low(lower, o) {
+        let before = self.previous(spot);
+        if admits(lower, compare(self.key_at(before), low)) {
             return Some(before);
         }
         None
@@ -57,8 +45,7 @@ impl View<'_> {
         if self.mark.count <= spot.number {
             return None;
         }
-        let o = compare(self.key_at(spot), high);
-        if admits_high(upper, o) {
+        if admits(upper, compare(high, self.key_at(spot))) {
             return Some(spot);
         }
         None

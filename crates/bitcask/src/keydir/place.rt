@@ -15,7 +15,9 @@ fn order_at(log: &[u8], table: &[u32], count: usize, i: usize, key: &[u8]) -> Or
     compare(key_of(log, slot_at(table, i)), key)
 }
 
-// The place of a key among the first `count` slots, by halving.
+// The place of a key among the first `count` slots, by halving. Ok: the slot that has the key; Err: the one before which it belongs.
+// By hand: any words and any log may arrive, and the contract says for all of them which place this is; the library's
+// `binary_search_by` promises one only where the keys rise.
 pub(crate) fn find(log: &[u8], table: &[u32], count: usize, key: &[u8]) -> Result<usize, usize>
     requires { slot_words * count ≤ length table.now }
     ensures { result ≡ place_of log.now key.now (slots_of count table.now) }
@@ -24,8 +26,7 @@ pub(crate) fn find(log: &[u8], table: &[u32], count: usize, key: &[u8]) -> Resul
     let mut high = count;
     while low < high {
         let mid = low + (high - low) / 2;
-        let o = order_at(log, table, count, mid, key);
-        match o {
+        match order_at(log, table, count, mid, key) {
             Ordering::Less => {
                 low = mid + 1;
             }

@@ -4,19 +4,39 @@ ghost use Rattle.keycode.specs.Buffer.{put};
 ghost use Rattle.bitcask.specs.keydir.Slots.{slot_words, slot_at, slots_of, words_of, insert_at, replace_at, remove_at, remove_span, key_of, value_of};
 ghost use Rattle.bitcask.specs.keydir.Place.{count_of};
 
-use crate::keydir::words::{clear, shift_down, shift_up};
-use crate::merging::moves::move_down;
 use keycode::parts::clip;
 
 // The words that a slot takes.
 pub const SLOT_WORDS: usize = 3;
 
 // A slot's words as they stand in the table: the entry's offset plus 1, so that 0 is a free slot, and the lengths of its key and value.
-#[derive(Clone, Copy)]
+#[derive(Clone, Copy, Debug, PartialEq, Eq)]
 pub struct Slot {
     pub place: u32,
     pub klen: u32,
     pub vlen: u32,
+}
+
+impl Slot {
+    pub(crate) const FREE: Slot = Slot {
+        place: 0,
+        klen: 0,
+        vlen: 0,
+    };
+
+    // Where the key begins in the log: 8 bytes behind the entry's offset.
+    pub(crate) fn key_at(self) -> usize
+        ensures { (result ≡ self.place + 7) × (result < 4294967303) }
+    {
+        self.place as usize + 7
+    }
+
+    // Where the value begins.
+    pub(crate) fn value_at(self) -> usize
+        ensures { (result ≡ self.place + 7 + self.klen) × (result < 8589934599) }
+    {
+        self.key_at() + self.klen as usize
+    }
 }
 
 // The i-th slot.
@@ -48,7 +68,7 @@ pub(crate) fn insert(table: &mut [u32], count: usize, i: usize, s: Slot)
     ensures { table.new ≡ words_of (insert_at i s (slots_of count table.old)) ++ drop (slot_words * count + slot_words) table.old }
 {
     let at = SLOT_WORDS * i;
-    shift_up(table, at, SLOT_WORDS * count);
+    table.copy_within(at..SLOT_WORDS * count, at + SLOT_WORDS);
     store(table, at, s);
 }
 
@@ -65,14 +85,10 @@ pub(crate) fn remove(table: &mut [u32], count: usize, i: usize)
     requires { (i < count) × (slot_words * count ≤ length table.old) }
     ensures { table.new ≡ words_of (remove_at i (slots_of count table.old)) ++ (replicate slot_words 0 ++ drop (slot_words * count) table.old) }
 {
+    let at = SLOT_WORDS * i;
     let last = SLOT_WORDS * (count - 1);
-    shift_down(table, SLOT_WORDS * i, last);
-    let free = Slot {
-        place: 0,
-        klen: 0,
-        vlen: 0,
-    };
-    store(table, last, free);
+    table.copy_within(at + SLOT_WORDS..last + SLOT_WORDS, at);
+    store(table, last, Slot::FREE);
 }
 
 // The slots from the i-th to the j-th of `count` gone with one move, the words that they free at the end cleared.
@@ -82,11 +98,12 @@ pub(crate) fn remove_span(table: &mut [u32], count: usize, i: usize, j: usize)
 {
     let last = SLOT_WORDS * (i + (count - j));
     let end = SLOT_WORDS * count;
-    move_down(table, SLOT_WORDS * j, end, SLOT_WORDS * i);
-    clear(&mut table[last..end]);
+    table.copy_within(SLOT_WORDS * j..end, SLOT_WORDS * i);
+    table[last..end].fill(0);
 }
 
-// How many slots are in use.
+// How many slots are in use. By hand: any words may arrive, and the contract says for all of them which index this is; the library's
+// `partition_point` promises one only where the slots in use stand before the free ones.
 pub(crate) fn count(table: &[u32]) -> usize
     ensures { result ≡ count_of table.now }
 {
@@ -103,25 +120,16 @@ pub(crate) fn count(table: &[u32]) -> usize
     low
 }
 
-// A word as an index; its bound is what the sums below rest on.
-fn wide(x: u32) -> usize
-    ensures { (result ≡ x) × (result < 4294967296) }
-{
-    x as usize
-}
-
 // A slot's key, as far as the log goes.
 pub fn key_of(log: &[u8], s: Slot) -> &[u8]
     ensures { result.now ≡ key_of log.now s }
 {
-    let start = wide(s.place) + 7;
-    clip(log, start, wide(s.klen))
+    clip(log, s.key_at(), s.klen as usize)
 }
 
 // A slot's value, as far as the log goes.
 pub(crate) fn value_of(log: &[u8], s: Slot) -> &[u8]
     ensures { result.now ≡ value_of log.now s }
 {
-    let start = wide(s.place) + 7 + wide(s.klen);
-    clip(log, start, wide(s.vlen))
+    clip(log, s.value_at(), s.vlen as usize)
 }

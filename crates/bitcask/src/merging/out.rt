@@ -4,11 +4,9 @@ ghost use Rattle.std.specs.Prelude.{◌+◌, ◌-◌, ◌*◌, ◌≤◌, length
 ghost use Rattle.bitcask.specs.keydir.Slots.{slot_words, slots_of};
 ghost use Rattle.bitcask.specs.merging.Passes.{TakesOne, TakesAll};
 
-use crate::keydir::words::clear;
 use crate::keydir::{SLOT_WORDS, find, key_of, slot_at};
-use crate::merging::moves::move_down;
 
-#[derive(Clone, Copy)]
+#[derive(Clone, Copy, Debug, PartialEq, Eq)]
 pub struct Gap {
     pub to: usize,
     pub from: usize,
@@ -20,10 +18,9 @@ fn take_one(log: &[u8], table: &mut [u32], count: usize, gap: Gap, key: &[u8]) -
     ensures { TakesOne log.now table.old count gap.to gap.from key.now result.to result.from table.new }
 {
     let start = SLOT_WORDS * gap.from;
-    let found = find(log, &table[start..], count - gap.from, key);
-    match found {
+    match find(log, &table[start..], count - gap.from, key) {
         Ok(j) => {
-            move_down(table, start, start + SLOT_WORDS * j, SLOT_WORDS * gap.to);
+            table.copy_within(start..start + SLOT_WORDS * j, SLOT_WORDS * gap.to);
             Gap {
                 to: gap.to + j,
                 from: gap.from + j + 1,
@@ -44,20 +41,13 @@ pub(crate) fn take_all(
     requires { (slot_words * count ≤ length table.old) × (slot_words * waiting ≤ length pend.now) }
     ensures { TakesAll log.now table.old count (slots_of waiting pend.now) result table.new }
 {
-    let mut to = 0;
-    let mut from = 0;
-    let mut p = 0;
-    while p < waiting {
-        let s = slot_at(pend, p);
-        let gap = take_one(log, table, count, Gap { to, from }, key_of(log, s));
-        to = gap.to;
-        from = gap.from;
-        p += 1;
+    let mut gap = Gap { to: 0, from: 0 };
+    for p in 0..waiting {
+        gap = take_one(log, table, count, gap, key_of(log, slot_at(pend, p)));
     }
     let end = SLOT_WORDS * count;
-    move_down(table, SLOT_WORDS * from, end, SLOT_WORDS * to);
-    let left = to + (count - from);
-    let free = SLOT_WORDS * left;
-    clear(&mut table[free..end]);
+    table.copy_within(SLOT_WORDS * gap.from..end, SLOT_WORDS * gap.to);
+    let left = gap.to + (count - gap.from);
+    table[SLOT_WORDS * left..end].fill(0);
     left
 }

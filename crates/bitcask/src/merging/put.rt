@@ -2,13 +2,12 @@
 // slots follow, and what lies behind those stands where it stays.
 ghost use Rattle.std.specs.Prelude.{false, ◌≡◌, ◌+◌, ◌-◌, ◌*◌, ◌≤◌, ◌<◌, length};
 ghost use Rattle.bitcask.specs.keydir.Slots.{slot_words, slots_of};
-ghost use Rattle.bitcask.specs.keydir.Place.{index_of};
 ghost use Rattle.bitcask.specs.merging.Merge.{is_gone, new_of, news};
 ghost use Rattle.bitcask.specs.merging.Passes.{PutsNext, PutsAll};
 
 use crate::keydir::slots::store;
-use crate::keydir::{SLOT_WORDS, Slot, find, key_of, slot_at};
-use crate::merging::moves::move_up;
+use crate::keydir::{SLOT_WORDS, Slot, key_of, slot_at};
+use crate::rank::below;
 
 // The value length of a waiting slot whose key is to go.
 pub(crate) const GONE: u32 = 0xffff_ffff;
@@ -20,55 +19,36 @@ pub(crate) fn is_gone(s: Slot) -> bool
     s.vlen == GONE
 }
 
-// 1 for a waiting slot that is new.
-fn new_of(s: Slot) -> usize
-    ensures { (result ≡ new_of s) × (result ≤ 1) }
-{
-    if is_gone(s) {
-        return 0;
-    }
-    1
-}
-
-fn index_of(found: Result<usize, usize>) -> usize
-    ensures { result ≡ index_of found }
-{
-    match found {
-        Ok(i) => i,
-        Err(i) => i,
-    }
-}
-
 // How many of those that wait are new.
 pub(crate) fn count_new(pend: &[u32], waiting: usize) -> usize
     requires { slot_words * waiting ≤ length pend.now }
     ensures { result ≡ news (slots_of waiting pend.now) }
 {
     let mut n = 0;
-    let mut p = 0;
-    while p < waiting {
-        n += new_of(slot_at(pend, p));
-        p += 1;
+    for p in 0..waiting {
+        if !is_gone(slot_at(pend, p)) {
+            n += 1;
+        }
     }
     n
 }
 
 // Where the slots that are left to place end, and how many free slots follow.
-#[derive(Clone, Copy)]
+#[derive(Clone, Copy, Debug, PartialEq, Eq)]
 struct Room {
     end: usize,
     left: usize,
 }
 
 // One new slot; gives where the slots that are left to place end.
-fn put_one(log: &[u8], table: &mut [u32], end: usize, left: usize, s: Slot) -> usize
-    requires { (is_gone s ≡ false) × (0 < left) × (slot_words * (end + left) ≤ length table.old) }
-    ensures { PutsNext log.now table.old end left s result (left - 1) table.new }
+fn put_one(log: &[u8], table: &mut [u32], room: Room, s: Slot) -> usize
+    requires { (is_gone s ≡ false) × (0 < room.left) × (slot_words * (room.end + room.left) ≤ length table.old) }
+    ensures { PutsNext log.now table.old room.end room.left s result (room.left - 1) table.new }
 {
-    let found = find(log, table, end, key_of(log, s));
-    let j = index_of(found);
-    move_up(table, SLOT_WORDS * j, SLOT_WORDS * end, SLOT_WORDS * left);
-    store(table, SLOT_WORDS * (j + left - 1), s);
+    let j = below(log, table, room.end, key_of(log, s));
+    let at = SLOT_WORDS * j;
+    table.copy_within(at..SLOT_WORDS * room.end, at + SLOT_WORDS * room.left);
+    store(table, SLOT_WORDS * (j + room.left - 1), s);
     j
 }
 
@@ -80,9 +60,8 @@ fn put_next(log: &[u8], table: &mut [u32], room: Room, s: Slot) -> Room
     if is_gone(s) {
         return room;
     }
-    let end = put_one(log, table, room.end, room.left, s);
     Room {
-        end,
+        end: put_one(log, table, room, s),
         left: room.left - 1,
     }
 }
@@ -99,14 +78,11 @@ pub(crate) fn put_all(
     requires { (slot_words * (count + new) ≤ length table.old) × (slot_words * waiting ≤ length pend.now) × (new ≡ news (slots_of waiting pend.now)) }
     ensures { PutsAll log.now table.old count (slots_of waiting pend.now) table.new }
 {
-    let mut p = waiting;
-    let mut end = count;
-    let mut left = new;
-    while 0 < p {
-        p -= 1;
-        let s = slot_at(pend, p);
-        let room = put_next(log, table, Room { end, left }, s);
-        end = room.end;
-        left = room.left;
+    let mut room = Room {
+        end: count,
+        left: new,
+    };
+    for p in (0..waiting).rev() {
+        room = put_next(log, table, room, slot_at(pend, p));
     }
 }

@@ -5,23 +5,20 @@ ghost use Rattle.keycode.specs.Limits.{max_log};
 ghost use Rattle.bitcask.specs.keydir.Slots.{slot_words};
 ghost use Rattle.bitcask.specs.merging.Merge.{gone_mark};
 ghost use Rattle.bitcask.specs.recovery.Waiting.{max_waiting};
-ghost use Rattle.bitcask.specs.recovery.Passing.{TakesEntry, Passes};
+ghost use Rattle.bitcask.specs.recovery.Passing.{TakesEntry, GoesOver, Passes};
 
 use crate::entry::{Lengths, entry_at};
-use crate::keydir::{SLOT_WORDS, Slot, clear};
+use crate::keydir::{SLOT_WORDS, Slot};
 use crate::merging::GONE;
-use crate::recovery::waiting::{Held, MAX_WAITING, Took, make_room, settle, take_del, take_set};
+use crate::recovery::waiting::{Held, MAX_WAITING, Next, make_room, settle, take_del, take_set};
+use keycode::Refusal;
 
-// What came of it: an entry's new key found no free slot, and the table is clear; or where the next entry begins, how many slots are
-// in use, and how many entries more might have been passed.
-#[derive(Clone, Copy)]
-pub enum Passed {
-    Full,
-    On {
-        at: usize,
-        count: usize,
-        left: usize,
-    },
+// Where the entry behind those passed begins, how many slots are in use, and how many entries more might have been passed.
+#[derive(Clone, Copy, Debug, PartialEq, Eq)]
+pub struct Passed {
+    pub at: usize,
+    pub count: usize,
+    pub left: usize,
 }
 
 // The slot of an entry at an offset.
@@ -48,7 +45,7 @@ fn gone_for(at: usize, klen: usize) -> Slot
     }
 }
 
-// The entry at an offset.
+// The entry at an offset; None where no whole one stands there, 8 where its new key finds no free slot.
 fn take_entry(
     log: &[u8],
     used: usize,
@@ -56,28 +53,30 @@ fn take_entry(
     pend: &mut [u32],
     h: Held,
     at: usize,
-) -> Took
+) -> Result<Option<Next>, Refusal>
     requires { (at ≤ used) × (used ≤ max_log) × (slot_words * h.count ≤ length table.old) × (slot_words * h.waiting + slot_words ≤ length pend.old) }
     ensures { TakesEntry log.now used table.old pend.old h at result table.new pend.new }
 {
     match entry_at(log, used, at) {
         Some(Lengths::Set { klen, vlen }) => {
             let s = slot_for(at, klen, vlen);
-            take_set(log, table, pend, h, s, at + 8 + klen + vlen)
+            let next = take_set(log, table, pend, h, s, at + 8 + klen + vlen)?;
+            Ok(Some(next))
         }
         Some(Lengths::Del { klen }) => {
             let s = gone_for(at, klen);
             let held = take_del(log, table, pend, h, s);
-            Took::Next {
+            Ok(Some(Next {
                 at: at + 8 + klen,
                 held,
-            }
+            }))
         }
-        None => Took::Over,
+        None => Ok(None),
     }
 }
 
-// At most so many entries from an offset on, into a table of `count` slots, with room for what waits.
+// At most so many entries from an offset on, into a table of `count` slots, with room for what waits. Where one is refused, the table
+// is left as it stands then.
 fn pass_with(
     log: &[u8],
     used: usize,
@@ -86,9 +85,9 @@ fn pass_with(
     count: usize,
     start: usize,
     most: usize,
-) -> Passed
+) -> Result<Passed, Refusal>
     requires { (start ≤ used) × (used ≤ max_log) × (slot_words * count ≤ length table.old) × (slot_words * max_waiting ≤ length pend.old) }
-    ensures { Passes log.now used table.old count start most result table.new }
+    ensures { GoesOver log.now used table.old count start most result table.new }
 {
     let mut at = start;
     let mut left = most;
@@ -99,36 +98,23 @@ fn pass_with(
     };
     while 0 < left {
         h = make_room(log, table, pend, h);
-        let took = take_entry(log, used, table, pend, h, at);
-        match took {
-            Took::Over => {
-                h = settle(log, table, pend, h);
-                return Passed::On {
-                    at,
-                    count: h.count,
-                    left,
-                };
-            }
-            Took::Full => {
-                clear(table);
-                return Passed::Full;
-            }
-            Took::Next { at: a, held } => {
-                at = a;
-                h = held;
-                left -= 1;
-            }
-        }
+        let Some(next) = take_entry(log, used, table, pend, h, at)? else {
+            break;
+        };
+        at = next.at;
+        h = next.held;
+        left -= 1;
     }
     h = settle(log, table, pend, h);
-    Passed::On {
+    Ok(Passed {
         at,
         count: h.count,
         left,
-    }
+    })
 }
 
-// The same, with room of its own for what waits: 3 KiB of stack.
+// The same, with room of its own for what waits: 3 KiB of stack. Where an entry's new key finds no free slot, it refuses with 8 and
+// the table is clear.
 pub(crate) fn pass(
     log: &[u8],
     used: usize,
@@ -136,10 +122,14 @@ pub(crate) fn pass(
     count: usize,
     start: usize,
     most: usize,
-) -> Passed
+) -> Result<Passed, Refusal>
     requires { (start ≤ used) × (used ≤ max_log) × (slot_words * count ≤ length table.old) }
     ensures { Passes log.now used table.old count start most result table.new }
 {
     let mut pend = [0u32; SLOT_WORDS * MAX_WAITING];
-    pass_with(log, used, table, &mut pend, count, start, most)
+    let passed = pass_with(log, used, table, &mut pend, count, start, most);
+    if passed.is_err() {
+        table.fill(0);
+    }
+    passed
 }

@@ -10,24 +10,24 @@ ghost use Rattle.bitcask.specs.recovery.Waiting.{max_waiting, waits_gone, Enters
 use crate::keydir::{SLOT_WORDS, Slot, enter, find, key_of, leave, slot_at};
 use crate::merging::flush;
 use crate::merging::put::is_gone;
+use keycode::Refusal;
 
 // How many changes wait at most.
 pub(crate) const MAX_WAITING: usize = 256;
 
 // The slots in use in the table, how many changes wait, and how many keys table and changes have together.
-#[derive(Clone, Copy)]
+#[derive(Clone, Copy, Debug, PartialEq, Eq)]
 pub struct Held {
     pub count: usize,
     pub waiting: usize,
     pub live: usize,
 }
 
-// What came of an entry: there is none, none of the slots was free for its key, or where the next begins and what is held then.
-#[derive(Clone, Copy)]
-pub enum Took {
-    Over,
-    Full,
-    Next { at: usize, held: Held },
+// Where the entry behind one that was taken begins, and what is held then.
+#[derive(Clone, Copy, Debug, PartialEq, Eq)]
+pub struct Next {
+    pub at: usize,
+    pub held: Held,
 }
 
 // Whether what waits at a place that was found takes its key out.
@@ -41,26 +41,14 @@ fn waits_gone(pend: &[u32], waiting: usize, held: Result<usize, usize>) -> bool
     }
 }
 
-fn less_by(a: usize, b: usize) -> usize
-    ensures { result ≡ a - b }
-{
-    if a < b {
-        return 0;
-    }
-    a - b
-}
-
 // Whether a new slot at a place goes behind the last, and the table has room there.
 fn goes_last(place: usize, count: usize, slots: usize) -> bool
     ensures { result ≡ pick (ltb place count) false (ltb count slots) }
 {
-    if place < count {
-        return false;
-    }
-    count < slots
+    count <= place && count < slots
 }
 
-// An entry with a value whose key does not wait: i is where it would.
+// An entry with a value whose key does not wait: i is where it would. 8 where its key is new and no slot is free.
 fn take_new(
     log: &[u8],
     table: &mut [u32],
@@ -69,54 +57,36 @@ fn take_new(
     i: usize,
     s: Slot,
     end: usize,
-) -> Took
+) -> Result<Next, Refusal>
     requires { (slot_words * h.count ≤ length table.old) × (slot_words * h.waiting + slot_words ≤ length pend.old) × (is_gone s ≡ false)
         × (Err i ≡ place_of log.now (key_of log.now s) (slots_of h.waiting pend.old)) }
     ensures { Enters log.now table.old pend.old h (record { slot = s; gone = false }) end result table.new pend.new }
 {
     let found = find(log, table, h.count, key_of(log, s));
     let slots = table.len() / SLOT_WORDS;
-    match found {
+    let held = match found {
         Ok(_) => {
-            let n = enter(table, h.count, found, s);
-            Took::Next {
-                at: end,
-                held: Held {
-                    count: n,
-                    waiting: h.waiting,
-                    live: h.live,
-                },
-            }
+            let count = enter(table, h.count, found, s);
+            Held { count, ..h }
         }
         Err(j) => {
             if slots <= h.live {
-                return Took::Full;
+                return Err(Refusal::TableFull);
             }
+            let live = h.live + 1;
             if goes_last(j, h.count, slots) {
-                let n = enter(table, h.count, Err(j), s);
-                return Took::Next {
-                    at: end,
-                    held: Held {
-                        count: n,
-                        waiting: h.waiting,
-                        live: h.live + 1,
-                    },
-                };
-            }
-            let n = enter(pend, h.waiting, Err(i), s);
-            Took::Next {
-                at: end,
-                held: Held {
-                    count: h.count,
-                    waiting: n,
-                    live: h.live + 1,
-                },
+                let count = enter(table, h.count, found, s);
+                Held { count, live, ..h }
+            } else {
+                let waiting = enter(pend, h.waiting, Err(i), s);
+                Held { waiting, live, ..h }
             }
         }
-    }
+    };
+    Ok(Next { at: end, held })
 }
 
-// An entry with a value, that ends at an offset.
+// An entry with a value, that ends at an offset. 8 where its key is new and no slot is free.
 pub(crate) fn take_set(
     log: &[u8],
     table: &mut [u32],
@@ -124,36 +94,23 @@ pub(crate) fn take_set(
     h: Held,
     s: Slot,
     end: usize,
-) -> Took
+) -> Result<Next, Refusal>
     requires { (slot_words * h.count ≤ length table.old) × (slot_words * h.waiting + slot_words ≤ length pend.old) × (is_gone s ≡ false) }
     ensures { Enters log.now table.old pend.old h (record { slot = s; gone = false }) end result table.new pend.new }
 {
     let held = find(log, pend, h.waiting, key_of(log, s));
     match held {
         Ok(_) => {
+            let mut live = h.live;
             if waits_gone(pend, h.waiting, held) {
                 if table.len() / SLOT_WORDS <= h.live {
-                    return Took::Full;
+                    return Err(Refusal::TableFull);
                 }
-                let n = enter(pend, h.waiting, held, s);
-                return Took::Next {
-                    at: end,
-                    held: Held {
-                        count: h.count,
-                        waiting: n,
-                        live: h.live + 1,
-                    },
-                };
+                live += 1;
             }
-            let n = enter(pend, h.waiting, held, s);
-            Took::Next {
-                at: end,
-                held: Held {
-                    count: h.count,
-                    waiting: n,
-                    live: h.live,
-                },
-            }
+            let waiting = enter(pend, h.waiting, held, s);
+            let held = Held { waiting, live, ..h };
+            Ok(Next { at: end, held })
         }
         Err(i) => take_new(log, table, pend, h, i, s, end),
     }
@@ -168,23 +125,16 @@ pub(crate) fn take_del(log: &[u8], table: &[u32], pend: &mut [u32], h: Held, s: 
     if waits_gone(pend, h.waiting, held) {
         return h;
     }
-    let found = find(log, table, h.count, key_of(log, s));
-    match found {
+    match find(log, table, h.count, key_of(log, s)) {
         Ok(_) => {
-            let n = enter(pend, h.waiting, held, s);
-            Held {
-                count: h.count,
-                waiting: n,
-                live: less_by(h.live, 1),
-            }
+            let waiting = enter(pend, h.waiting, held, s);
+            let live = h.live.saturating_sub(1);
+            Held { waiting, live, ..h }
         }
         Err(_) => {
-            let n = leave(pend, h.waiting, held);
-            Held {
-                count: h.count,
-                waiting: n,
-                live: less_by(h.live, less_by(h.waiting, n)),
-            }
+            let waiting = leave(pend, h.waiting, held);
+            let live = h.live.saturating_sub(h.waiting.saturating_sub(waiting));
+            Held { waiting, live, ..h }
         }
     }
 }
@@ -194,11 +144,11 @@ pub(crate) fn settle(log: &[u8], table: &mut [u32], pend: &[u32], h: Held) -> He
     requires { (slot_words * h.count ≤ length table.old) × (slot_words * h.waiting ≤ length pend.now) }
     ensures { (result.waiting ≡ 0) × (Settles log.now table.old pend.now h result table.new) }
 {
-    let n = flush(log, table, h.count, pend, h.waiting);
+    let count = flush(log, table, h.count, pend, h.waiting);
     Held {
-        count: n,
+        count,
         waiting: 0,
-        live: h.live,
+        ..h
     }
 }
 

@@ -8,15 +8,15 @@ pub loop-low-init : goal.loop-low-init
 loop-low-init c = let a = c.args in halving_start (order_at a.log.now a.key.now (slots_of a.count a.table.now)) a.count
 
 pub loop-low-preserved-in-Less : goal.loop-low-preserved-in-Less
-loop-low-preserved-in-Less c = halving_up c.loop-low.invariant c.loop-low-test.true c.order_at-o.ensures c.in-Less.is
+loop-low-preserved-in-Less c = halving_up c.loop-low.invariant c.loop-low-test.true c.order_at.ensures c.in-Less.is
 
 pub returns-in-Equal : goal.returns-in-Equal
 returns-in-Equal c =
     let a = c.args in
-    place_is a.log.now a.key.now a.table.now a.count (halving_at c.loop-low.invariant c.loop-low-test.true c.order_at-o.ensures c.in-Equal.is)
+    place_is a.log.now a.key.now a.table.now a.count (halving_at c.loop-low.invariant c.loop-low-test.true c.order_at.ensures c.in-Equal.is)
 
 pub loop-low-preserved : goal.loop-low-preserved
-loop-low-preserved c = halving_down c.loop-low.invariant c.loop-low-test.true c.order_at-o.ensures c.in-Greater.is
+loop-low-preserved c = halving_down c.loop-low.invariant c.loop-low-test.true c.order_at.ensures c.in-Greater.is
 
 pub returns : goal.returns
 returns c =

@@ -3,4 +3,4 @@ use Rattle.bitcask.proofs.keydir.SlotLaws.{key-is}
 use Rattle.bitcask.proofs.keydir.slots.key_of.Goals as goal
 
 pub returns : goal.returns
-returns c = key-is c.args.log.now c.args.s c.wide-start.ensures.0 c.wide.ensures.0 c.clip.ensures
+returns c = key-is c.args.log.now c.args.s c.key_at.ensures.0 c.clip.ensures

@@ -3,4 +3,4 @@ use Rattle.bitcask.proofs.keydir.SlotLaws.{value-is}
 use Rattle.bitcask.proofs.keydir.slots.value_of.Goals as goal
 
 pub returns : goal.returns
-returns c = value-is c.args.log.now c.args.s c.wide.ensures.0 c.wide-2.ensures.0 c.wide-3.ensures.0 c.clip.ensures
+returns c = value-is c.args.log.now c.args.s c.value_at.ensures.0 c.clip.ensures

@@ -1,30 +1,26 @@
-use Prim.Native.Nat.{ℕ}
-use mathlib.Core.Path.{◌≡◌, refl, ap, ◌∙◌}
+use mathlib.Core.Path.{refl, ◌∙◌}
 use native.Mathlib.Omega.{arith}
 use Rattle.bitcask.specs.keydir.Slots.{slots_of}
 use Rattle.bitcask.specs.merging.Merge.{news}
-use Rattle.bitcask.proofs.merging.PutLaws.{news-turn}
+use Rattle.bitcask.proofs.merging.PutLaws.{news-turn, new_new, new_gone}
 use Rattle.bitcask.proofs.merging.put.count_new.Goals as goal
+use Rattle.bitcask.proofs.merging.put.count_new.Goals.{then-not-is_gone, else-not-is_gone}
 
 pub loop-p-init : goal.loop-p-init
 unfolding slots_of news
-loop-p-init c = (omega arith, omega arith, refl)
-
-pub overflow_add-n : goal.overflow_add-n
-overflow_add-n c = omega (arith, c.new_of-n.ensures.1)
+loop-p-init c = (omega arith, refl)
 
 pub loop-p-preserved : goal.loop-p-preserved
 loop-p-preserved c =
     let l = c.loop-p in
-    let a = c.args in (
-      omega arith,
-      omega (arith, c.new_of-n.ensures.1),
-      news-turn a.pend.now a.waiting l.p l.n (omega arith) l.invariant.2 c.slot_at.ensures
-          c.new_of-n.ensures.0,
-    )
-
-pub returns : goal.returns
-returns c =
-    let l = c.loop-p in
     let a = c.args in
-    let e : l.p ≡ a.waiting = omega arith in l.invariant.2 ∙ ap (λ (k : ℕ). news (slots_of k a.pend.now)) e
+    elim c.if-not-is_gone.branch [
+      | then-not-is_gone w ↦ (
+        omega (arith, w.n-is, l.invariant.0),
+        w.n-is ∙ news-turn a.pend.now a.waiting l.p l.n c.loop-p-test.true l.invariant.1 c.slot_at.ensures (new_new c.slot_at.result c.is_gone.ensures w.if-not-is_gone.true),
+      )
+      | else-not-is_gone w ↦ (
+        omega (arith, w.n-is, l.invariant.0),
+        w.n-is ∙ omega (arith, news-turn a.pend.now a.waiting l.p l.n c.loop-p-test.true l.invariant.1 c.slot_at.ensures (new_gone c.slot_at.result c.is_gone.ensures w.if-not-is_gone.false)),
+      )
+    ]

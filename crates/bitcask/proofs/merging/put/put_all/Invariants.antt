@@ -5,7 +5,4 @@ use Rattle.bitcask.proofs.merging.PutLaws.{Putting}
 use Rattle.bitcask.proofs.merging.put.put_all.Given as goal
 
 abbrev pub invariant-loop-p : goal.invariant-loop-p
-invariant-loop-p l = Putting l.log l.initial.table l.count (slots_of l.waiting l.pend) l.table l.p l.end l.left
-
-abbrev pub decreases-loop-p : goal.decreases-loop-p
-decreases-loop-p l = l.p
+invariant-loop-p l = Putting l.log l.initial.table l.count (slots_of l.waiting l.pend) l.table l.p l.room.end l.room.left

@@ -9,8 +9,8 @@ returns-then-is_gone c =
     let a = c.args in
     next-gone a.log.now a.table.now a.room.end a.room.left a.s (sym c.is_gone.ensures ∙ c.if-is_gone.true) c.requires.1
 
-pub put_one-end-requires : goal.put_one-end-requires
-put_one-end-requires c = (
+pub put_one-requires : goal.put_one-requires
+put_one-requires c = (
   sym c.is_gone.ensures ∙ c.if-is_gone.false,
   omega (
     arith,
@@ -31,4 +31,4 @@ overflow_sub-result c =
     )
 
 pub returns : goal.returns
-returns c = c.put_one-end.ensures
+returns c = c.put_one.ensures

@@ -4,7 +4,7 @@ use Rattle.std.specs.Prelude.{Some}
 use mathlib.Core.Path.{ap, ◌∙◌}
 use Prim.Native.Nat.{◌+◌}
 use native.Mathlib.Omega.{arith}
-use Rattle.bitcask.proofs.recovery.TakeLaws.{set-inside, del-inside, not_gone, is_marked, entry-stop, entry_set, entry-del}
+use Rattle.bitcask.proofs.recovery.TakeLaws.{set-inside, del-inside, not_gone, is_marked, entry-del}
 use Rattle.bitcask.proofs.recovery.passing.take_entry.Goals as goal
 
 pub slot_for-s-requires : goal.slot_for-s-requires
@@ -15,36 +15,6 @@ slot_for-s-requires c =
       c.requires.1,
       set-inside a.log.now a.used a.table.now a.pend.now a.h a.at c.entry_at.ensures
           c.requires.0 _ _ (c.in-Some-Set.is ∙ ap Some c.in-Some-Set.field-0-is),
-    )
-
-pub overflow_add-at : goal.overflow_add-at
-overflow_add-at c =
-    let a = c.args in
-    omega (
-      arith,
-      c.requires.1,
-      set-inside a.log.now a.used a.table.now a.pend.now a.h a.at
-          c.entry_at.ensures c.requires.0 _ _ (c.in-Some-Set.is ∙ ap Some c.in-Some-Set.field-0-is),
-    )
-
-pub overflow_add-at-in-Some-Set : goal.overflow_add-at-in-Some-Set
-overflow_add-at-in-Some-Set c =
-    let a = c.args in
-    omega (
-      arith,
-      c.requires.1,
-      set-inside a.log.now a.used a.table.now a.pend.now a.h a.at
-          c.entry_at.ensures c.requires.0 _ _ (c.in-Some-Set.is ∙ ap Some c.in-Some-Set.field-0-is),
-    )
-
-pub overflow_add-at-in-Some-Set-2 : goal.overflow_add-at-in-Some-Set-2
-overflow_add-at-in-Some-Set-2 c =
-    let a = c.args in
-    omega (
-      arith,
-      c.requires.1,
-      set-inside a.log.now a.used a.table.now a.pend.now a.h a.at
-          c.entry_at.ensures c.requires.0 _ _ (c.in-Some-Set.is ∙ ap Some c.in-Some-Set.field-0-is),
     )
 
 pub take_set-requires : goal.take_set-requires
@@ -73,36 +43,6 @@ take_del-held-requires c =
     let a = c.args in
     (c.requires.2, c.requires.3, is_marked (a.at + 1) c.in-Some-Del.klen c.gone_for-s.ensures)
 
-pub overflow_add-result : goal.overflow_add-result
-overflow_add-result c =
-    let a = c.args in
-    omega (
-      arith,
-      c.requires.1,
-      del-inside a.log.now a.used a.table.now a.pend.now a.h a.at
-          c.entry_at.ensures c.requires.0 _
-          (c.in-Some-Del.is ∙ ap Some c.in-Some-Del.field-0-is),
-    )
-
-pub overflow_add-result-in-Some-Del : goal.overflow_add-result-in-Some-Del
-overflow_add-result-in-Some-Del c =
-    let a = c.args in
-    omega (
-      arith,
-      c.requires.1,
-      del-inside a.log.now a.used a.table.now a.pend.now a.h a.at
-          c.entry_at.ensures c.requires.0 _
-          (c.in-Some-Del.is ∙ ap Some c.in-Some-Del.field-0-is),
-    )
-
-pub returns-in-Some-Set : goal.returns-in-Some-Set
-returns-in-Some-Set c =
-    let a = c.args in
-    entry_set a.log.now a.used a.table.now a.pend.now a.h a.at
-    c.entry_at.ensures _ _
-    (c.in-Some-Set.is ∙ ap Some c.in-Some-Set.field-0-is)
-    c.slot_for-s.ensures c.take_set.ensures
-
 pub returns-in-Some-Del : goal.returns-in-Some-Del
 returns-in-Some-Del c =
     let a = c.args in
@@ -110,8 +50,3 @@ returns-in-Some-Del c =
     c.entry_at.ensures _ c.requires.2
     (c.in-Some-Del.is ∙ ap Some c.in-Some-Del.field-0-is) c.gone_for-s.ensures
     c.take_del-held.ensures
-
-pub returns-in-None : goal.returns-in-None
-returns-in-None c =
-    let a = c.args in
-    entry-stop a.log.now a.used a.table.now a.pend.now a.h a.at c.entry_at.ensures c.in-None.is

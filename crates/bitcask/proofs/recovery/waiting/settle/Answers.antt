@@ -6,4 +6,4 @@ use Rattle.bitcask.proofs.recovery.waiting.settle.Goals as goal
 pub returns : goal.returns
 returns c =
     let a = c.args in
-    (refl, settles a.log.now a.table.now a.pend.now a.h c.requires.0 c.flush-n.ensures)
+    (refl, settles a.log.now a.table.now a.pend.now a.h c.requires.0 c.flush-count.ensures)

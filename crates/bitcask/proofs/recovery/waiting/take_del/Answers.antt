@@ -3,9 +3,6 @@ use native.Mathlib.Omega.{arith}
 use Rattle.bitcask.proofs.recovery.EnterLaws.{pend_among, del-gone, del_waits, del_not}
 use Rattle.bitcask.proofs.recovery.waiting.take_del.Goals as goal
 
-pub find-held-requires : goal.find-held-requires
-find-held-requires c = omega (arith, c.requires.1)
-
 pub waits_gone-requires : goal.waits_gone-requires
 waits_gone-requires c =
     let a = c.args in
@@ -17,16 +14,16 @@ returns-then-waits_gone c =
     del-gone a.log.now a.table.now a.pend.now a.h a.s c.requires.0 c.requires.1 c.key_of.ensures
     c.find-held.ensures c.waits_gone.ensures c.if-waits_gone.true
 
-pub enter-n-requires : goal.enter-n-requires
-enter-n-requires c =
+pub enter-waiting-requires : goal.enter-waiting-requires
+enter-waiting-requires c =
     let a = c.args in (
       pend_among a.log.now a.table.now a.pend.now a.h a.s c.requires.0 c.requires.1 _
           c.find-held.ensures,
       omega (arith, c.requires.1),
     )
 
-pub leave-n-requires : goal.leave-n-requires
-leave-n-requires c =
+pub leave-waiting-requires : goal.leave-waiting-requires
+leave-waiting-requires c =
     let a = c.args in (
       pend_among a.log.now a.table.now a.pend.now a.h a.s c.requires.0 c.requires.1 _
           c.find-held.ensures,
@@ -41,8 +38,8 @@ returns-in-Ok c =
     c.find-held.ensures
     c.waits_gone.ensures c.requires.2
     c.if-waits_gone.false
-    c.key_of-2.ensures c.find-found.ensures _
-    c.in-Ok.is c.enter-n.ensures c.less_by.ensures
+    c.key_of-2.ensures c.find.ensures _
+    c.in-Ok.is c.enter-waiting.ensures c.saturating_sub-live.ensures
 
 pub returns-in-Err : goal.returns-in-Err
 returns-in-Err c =
@@ -53,5 +50,5 @@ returns-in-Err c =
     c.waits_gone.ensures c.requires.2
     c.if-waits_gone.false
     c.key_of-2.ensures
-    c.find-found.ensures _ c.in-Err.is
-    c.leave-n.ensures c.less_by-in-Err.ensures c.less_by-in-Err-2.ensures
+    c.find.ensures _ c.in-Err.is
+    c.leave-waiting.ensures c.saturating_sub.ensures c.saturating_sub-live-in-Err.ensures

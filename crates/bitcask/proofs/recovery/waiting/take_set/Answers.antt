@@ -1,12 +1,14 @@
 -- `recovery::waiting::take_set` meets its contract. Assumes nothing.
+use mathlib.Core.Path.{sym, subst}
+use Prim.Native.Nat.{ℕ}
 use native.Mathlib.Omega.{arith}
+use Rattle.std.specs.Prelude.{false, Ok}
 use Rattle.bitcask.specs.keydir.Slots.{slots_of}
+use Rattle.bitcask.specs.recovery.Waiting.{Enters}
 use Rattle.bitcask.proofs.recovery.EnterLaws.{pend_among, set_full, set-again, set-over}
 use Rattle.bitcask.proofs.recovery.SettleLaws.{key-place}
 use Rattle.bitcask.proofs.recovery.waiting.take_set.Goals as goal
-
-pub find-held-requires : goal.find-held-requires
-find-held-requires c = omega (arith, c.requires.1)
+use Rattle.bitcask.proofs.recovery.waiting.take_set.Goals.{then-waits_gone+else-table-h, else-waits_gone}
 
 pub waits_gone-requires : goal.waits_gone-requires
 waits_gone-requires c =
@@ -20,26 +22,8 @@ returns-then-table-h c =
     c.key_of.ensures c.find-held.ensures
     c.waits_gone.ensures c.requires.2 a.end c.if-waits_gone.true c.if-table-h.true
 
-pub enter-n-requires : goal.enter-n-requires
-enter-n-requires c =
-    let a = c.args in (
-      pend_among a.log.now a.table.now a.pend.now a.h a.s c.requires.0 c.requires.1 _
-          c.find-held.ensures,
-      omega (arith, c.requires.1),
-    )
-
-pub returns-then-waits_gone : goal.returns-then-waits_gone
-returns-then-waits_gone c =
-    let a = c.args in
-    set-again a.log.now a.table.now a.pend.now a.h a.s c.requires.0 c.requires.1
-    c.key_of.ensures
-    c.find-held.ensures
-    c.waits_gone.ensures c.requires.2 a.end
-    c.if-waits_gone.true c.if-table-h.false
-    c.enter-n.ensures
-
-pub enter-n-requires-in-Ok : goal.enter-n-requires-in-Ok
-enter-n-requires-in-Ok c =
+pub enter-waiting-requires : goal.enter-waiting-requires
+enter-waiting-requires c =
     let a = c.args in (
       pend_among a.log.now a.table.now a.pend.now a.h a.s c.requires.0 c.requires.1 _
           c.find-held.ensures,
@@ -57,14 +41,19 @@ take_new-requires c =
           c.in-Err.is,
     )
 
-pub returns-else-waits_gone : goal.returns-else-waits_gone
-returns-else-waits_gone c =
+pub returns-after-waits_gone : goal.returns-after-waits_gone
+returns-after-waits_gone c =
     let a = c.args in
-    set-over a.log.now a.table.now a.pend.now a.h a.s c.requires.0 c.requires.1
-    c.key_of.ensures
-    c.find-held.ensures c.waits_gone.ensures
-    c.requires.2 a.end _ c.in-Ok.is c.if-waits_gone.false
-    c.enter-n-in-Ok.ensures
+    let P : ℕ → Type 0 = λ n. Enters a.log.now a.table.now a.pend.now a.h (record { slot = a.s; gone = false }) a.end
+    (Ok (record { at = a.end; held = record { count = a.h.count; waiting = c.enter-waiting.result; live = n } })) a.table.now c.enter-waiting.new.table in
+    elim c.if-waits_gone.branch [
+      | then-waits_gone+else-table-h w ↦ subst P (sym w.live-is)
+          (set-again a.log.now a.table.now a.pend.now a.h a.s c.requires.0 c.requires.1 c.key_of.ensures c.find-held.ensures c.waits_gone.ensures c.requires.2 a.end
+          w.if-waits_gone.true w.if-table-h.false c.enter-waiting.ensures)
+      | else-waits_gone w ↦ subst P (sym w.live-is)
+          (set-over a.log.now a.table.now a.pend.now a.h a.s c.requires.0 c.requires.1 c.key_of.ensures c.find-held.ensures c.waits_gone.ensures c.requires.2 a.end _
+          c.in-Ok.is w.if-waits_gone.false c.enter-waiting.ensures)
+    ]
 
 pub returns-in-Err : goal.returns-in-Err
 returns-in-Err c = c.take_new.ensures

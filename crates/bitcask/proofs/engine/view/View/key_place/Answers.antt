@@ -6,4 +6,4 @@ pub slot_at-s-requires : goal.slot_at-s-requires
 slot_at-s-requires c = let a = c.args in let v = a.self.now in spot_within v.log.now v.table.now v.mark a.spot v.held c.requires
 
 pub returns : goal.returns
-returns c = let a = c.args in let v = a.self.now in key_place_is v.log.now v.table.now v.mark a.spot v.held c.requires c.slot_at-s.ensures c.wide.ensures.0 c.wide.ensures.1 c.key_of-key.ensures
+returns c = let a = c.args in let v = a.self.now in key_place_is v.log.now v.table.now v.mark a.spot v.held c.requires c.slot_at-s.ensures c.key_at.ensures.0 c.key_at.ensures.1 c.key_of-key.ensures

@@ -8,4 +8,4 @@ slot_at-requires c = let v = c.args.self.now in spot_within v.log.now v.table.no
 pub returns : goal.returns
 returns c =
     let v = c.args.self.now in
-    offset_is v.log.now v.table.now v.mark c.args.spot v.held c.requires c.slot_at.ensures c.wide.ensures.0 c.wide.ensures.1 c.saturating_sub.ensures
+    offset_is v.log.now v.table.now v.mark c.args.spot v.held c.requires c.slot_at.ensures c.saturating_sub.ensures

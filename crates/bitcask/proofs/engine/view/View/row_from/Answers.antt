@@ -8,8 +8,8 @@ returns-then-self-spot c = let a = c.args in let v = a.self.now in from-none v.l
 pub key_at-requires : goal.key_at-requires
 key_at-requires c = let a = c.args in let v = a.self.now in from-within v.log.now v.table.now v.mark a.spot a.upper a.high.now c.if-self-spot.false
 
-pub returns-then-admits_high : goal.returns-then-admits_high
-returns-then-admits_high c = let a = c.args in let v = a.self.now in from_at v.log.now v.table.now v.mark a.spot a.upper a.high.now c.if-self-spot.false c.key_at.ensures c.compare-o.ensures c.admits_high.ensures c.if-admits_high.true
+pub returns-then-admits : goal.returns-then-admits
+returns-then-admits c = let a = c.args in let v = a.self.now in from_at v.log.now v.table.now v.mark a.spot a.upper a.high.now c.if-self-spot.false c.key_at.ensures c.compare.ensures c.admits.ensures c.if-admits.true
 
 pub returns : goal.returns
-returns c = let a = c.args in let v = a.self.now in from_past v.log.now v.table.now v.mark a.spot a.upper a.high.now c.if-self-spot.false c.key_at.ensures c.compare-o.ensures c.admits_high.ensures c.if-admits_high.false
+returns c = let a = c.args in let v = a.self.now in from_past v.log.now v.table.now v.mark a.spot a.upper a.high.now c.if-self-spot.false c.key_at.ensures c.compare.ensures c.admits.ensures c.if-admits.false
