@@ -181,14 +181,10 @@ fn unescape_into(s: &[u8], out: &mut [u8])
 pub fn unescape(escaped: &[u8], out: &mut [u8]) -> Result<usize, Refusal>
     ensures { Unescapes escaped.now out.old result out.new }
 {
-    match plain_len(escaped) {
-        Ok(n) => {
-            if out.len() < n {
-                return Err(Refusal::BadRequest);
-            }
-            unescape_into(escaped, out);
-            Ok(n)
-        }
-        Err(r) => Err(r),
+    let n = plain_len(escaped)?;
+    if out.len() < n {
+        return Err(Refusal::BadRequest);
     }
+    unescape_into(escaped, out);
+    Ok(n)
 }
