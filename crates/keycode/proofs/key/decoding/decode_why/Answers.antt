@@ -21,7 +21,7 @@ pub overflow_add-i : goal.overflow_add-i
 overflow_add-i c = omega (arith, (string_within max_key 9 c.args.key.now _ c.string_at.ensures c.in_ok-i-in-3.i c.in_ok-i-in-3.was).1)
 
 pub overflow_sub-i : goal.overflow_sub-i
-overflow_sub-i c = (string_within max_key 9 c.args.key.now _ c.string_at.ensures c.in_ok-i-in-3.i c.in_ok-i-in-3.was).0
+overflow_sub-i c = omega (arith, (string_within max_key 9 c.args.key.now _ c.string_at.ensures c.in_ok-i-in-3.i c.in_ok-i-in-3.was).0)
 
 pub overflow_add-i-in-4 : goal.overflow_add-i-in-4
 overflow_add-i-in-4 c = omega (arith, (string_within max_key 1 c.args.key.now _ c.string_at-in-4.ensures c.in_ok-i-in-4.i c.in_ok-i-in-4.was).1)
