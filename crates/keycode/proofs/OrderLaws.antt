@@ -1,14 +1,17 @@
--- Laws of the order of bytes: what the loop that compares knows, and that the order is total. Assumes nothing.
-use Prim.Native.Nat.{ℕ, ◌+◌, ◌≤◌, ◌<◌}
-use mathlib.Core.Path.{◌≡◌, refl, sym, ◌∙◌}
+-- Laws of the order of bytes: that it is the order of std, and that it is total. Assumes nothing.
+use Prim.Native.Nat.{ℕ, zero, suc, ◌<◌, min}
+use mathlib.Core.Path.{◌≡◌, refl, sym, ap, ap₂, ◌∙◌}
 use mathlib.Core.Logic.{◌⊎◌, inl, inr}
 use mathlib.Core.List.{List, [], ◌∷◌}
 use native.Mathlib.Nat.{le_of_lt, le_of_eq}
 use native.Mathlib.Omega.{arith}
-use native.Mathlib.Numerals.{add-one}
-use lib.ListN.{length, drop, get_or, drop_of_length-le}
-use lib.Seq.{drop-cons}
-use borrow.Author.Tests.{lt-ltb, le-ltb}
+use lib.Dec.{ltb}
+use lib.ListN.{length, take}
+use borrow.Author.Tests.{lt-ltb, le-ltb, eq-eqb, ne_eqb}
+use Rattle.std.proofs.Common.{nat_cmp}
+use Rattle.std.specs.Cmp.Lexicographic.{slice_cmp}
+use Rattle.std.specs.Ordering.{ordering_then}
+use Rattle.keycode.specs.Tests.{pick}
 use Rattle.std.specs.declared.cmp.Ordering.{Ordering}
 use Rattle.std.specs.declared.cmp.Ordering.TheVariants.{Less, Equal, Greater}
 use Rattle.keycode.specs.Order.{compare_bytes, compare_nat, and_then}
@@ -38,33 +41,62 @@ and_then_equal Less = refl
 and_then_equal Equal = refl
 and_then_equal Greater = refl
 
--- ---- the loop that compares, at index i of both
+-- two numbers that differ decide, whatever follows
+pub nat_decides : (x y : ℕ) (o : Ordering) → (x ≡ y → ⊥) → and_then (compare_nat x y) o ≡ compare_nat x y
+nat_decides x y o n = go (ordered x y)
+  where
+    go : Ordered x y → and_then (compare_nat x y) o ≡ compare_nat x y
+    go (below h) = rw (nat_less x y h)
+    go (same e) = absurd (n e)
+    go (above h) = rw (nat_greater x y h)
 
-pub compare_long : (a b : List ℕ) (i : ℕ) → i < length a → length b ≤ i → compare_bytes (drop i a) (drop i b) ≡ Greater
+-- ---- the order of std is this one
+
+pub nat_same : (x y : ℕ) → nat_cmp x y ≡ compare_nat x y
+unfolding compare_nat
+nat_same x y = go (ordered x y)
+  where
+    go : Ordered x y → nat_cmp x y ≡ pick (ltb x y) Less (pick (ltb y x) Greater Equal)
+    go (below h) = rw (lt-ltb x y h)
+    go (same e) = rw (e, le-ltb y y (omega arith), eq-eqb y y refl)
+    go (above h) = rw (le-ltb x y (le_of_lt h), lt-ltb y x h, ne_eqb x y (λ e. omega arith))
+
+pub then_same : (a b : Ordering) → ordering_then a b ≡ and_then a b
+then_same Less b = refl
+then_same Equal b = refl
+then_same Greater b = refl
+
+pub slice_same : (a b : List ℕ) → slice_cmp nat_cmp a b ≡ compare_bytes a b
 unfolding compare_bytes
-compare_long a b i h g = rw (drop-cons a i 0, drop_of_length-le b g)
+slice_same [] [] = refl
+slice_same [] (y ∷ b) = refl
+slice_same (x ∷ a) [] = refl
+slice_same (x ∷ a) (y ∷ b) = then_same (nat_cmp x y) (slice_cmp nat_cmp a b) ∙ ap₂ and_then (nat_same x y) (slice_same a b)
 
-pub compare_short : (a b : List ℕ) (i : ℕ) → length a ≤ i → i < length b → compare_bytes (drop i a) (drop i b) ≡ Less
+-- ---- both cut where the shorter ends, and then by their lengths
+
+nat_more : (x y : ℕ) → compare_nat (suc x) (suc y) ≡ compare_nat x y
+nat_more x y = go (ordered x y)
+  where
+    go : Ordered x y → compare_nat (suc x) (suc y) ≡ compare_nat x y
+    go (below h) = nat_less (suc x) (suc y) (omega arith) ∙ sym (nat_less x y h)
+    go (same e) = nat_equal (suc x) (suc y) (omega arith) ∙ sym (nat_equal x y e)
+    go (above h) = nat_greater (suc x) (suc y) (omega arith) ∙ sym (nat_greater x y h)
+
+pub compare_cut : (a b : List ℕ) (n : ℕ) → n ≡ min (length a) (length b) → compare_bytes a b ≡ and_then (compare_bytes (take n a) (take n b)) (compare_nat (length a) (length b))
 unfolding compare_bytes
-compare_short a b i h g = rw (drop_of_length-le a h, drop-cons b i 0)
-
-pub compare_ended : (a b : List ℕ) (i : ℕ) → length a ≤ i → length b ≤ i → compare_bytes (drop i a) (drop i b) ≡ Equal
-unfolding compare_bytes
-compare_ended a b i h g = rw (drop_of_length-le a h, drop_of_length-le b g)
-
-module _ (a b : List ℕ) (i : ℕ) (h : i < length a) (g : i < length b) where
-  compare_at : compare_bytes (drop i a) (drop i b) ≡ and_then (compare_nat (get_or a i 0) (get_or b i 0)) (compare_bytes (drop (i + 1) a) (drop (i + 1) b))
-  unfolding compare_bytes
-  compare_at = rw (add-one, drop-cons a i 0, drop-cons b i 0)
-
-  pub compare_less : get_or a i 0 < get_or b i 0 → compare_bytes (drop i a) (drop i b) ≡ Less
-  compare_less l = compare_at ∙ rw (nat_less (get_or a i 0) (get_or b i 0) l)
-
-  pub compare_greater : get_or b i 0 < get_or a i 0 → compare_bytes (drop i a) (drop i b) ≡ Greater
-  compare_greater l = compare_at ∙ rw (nat_greater (get_or a i 0) (get_or b i 0) l)
-
-  pub compare_same : get_or a i 0 ≤ get_or b i 0 → get_or b i 0 ≤ get_or a i 0 → compare_bytes (drop i a) (drop i b) ≡ compare_bytes (drop (i + 1) a) (drop (i + 1) b)
-  compare_same l m = let e : get_or a i 0 ≡ get_or b i 0 = omega arith in compare_at ∙ rw (nat_equal (get_or a i 0) (get_or b i 0) e)
+compare_cut a b zero e = empty a b (omega arith)
+  where
+    empty : (a b : List ℕ) → min (length a) (length b) ≡ 0 → compare_bytes a b ≡ compare_nat (length a) (length b)
+    empty [] [] e = sym (nat_equal 0 0 refl)
+    empty [] (y ∷ b) e = sym (nat_less 0 (suc (length b)) (omega arith))
+    empty (x ∷ a) [] e = sym (nat_greater (suc (length a)) 0 (omega arith))
+    empty (x ∷ a) (y ∷ b) e = absurd (omega arith)
+compare_cut [] b (suc n) e = absurd (omega arith)
+compare_cut (x ∷ a) [] (suc n) e = absurd (omega arith)
+compare_cut (x ∷ a) (y ∷ b) (suc n) e =
+    ap (and_then (compare_nat x y)) (compare_cut a b n (omega arith) ∙ ap (and_then (compare_bytes (take n a) (take n b))) (sym (nat_more (length a) (length b))))
+    ∙ sym (and_then_assoc (compare_nat x y) (compare_bytes (take n a) (take n b)) (compare_nat (suc (length a)) (suc (length b))))
 
 -- ---- the order is total
 

@@ -1,6 +1,6 @@
 -- A string of bytes lies in a prefix's range just where it begins with the prefix, and an escaped string begins with the escaped prefix
 -- just where the string begins with the prefix. Assumes nothing.
-use Prim.Native.Nat.{ℕ, zero, suc, ◌+◌, ◌-◌, ◌≤◌, ◌<◌}
+use Prim.Native.Nat.{ℕ, zero, suc, ◌+◌, ◌≤◌, ◌<◌}
 use mathlib.Core.Path.{◌≡◌, refl, sym, ap, ◌∙◌}
 use mathlib.Core.Bool.{Bool, true, false}
 use mathlib.Core.Logic.{⊎_elim}
@@ -8,12 +8,11 @@ use mathlib.Core.List.{List, [], ◌∷◌, ◌++◌, append_assoc}
 use native.Mathlib.Omega.{arith}
 use native.Mathlib.Numerals.{add-one}
 use lib.ListN.{length, take, get_or}
-use lib.Seq.{take-suc, length-take-le}
 use lib.Dec.{ltb}
 use borrow.Author.Tests.{ltb-false, lt-ltb, le-ltb}
 use Rattle.std.specs.declared.cmp.Ordering.TheVariants.{Less, Greater}
 use Rattle.keycode.specs.declared.prefix.End.{End}
-use Rattle.keycode.specs.declared.prefix.End.TheVariants.{Unbounded, Raised}
+use Rattle.std.specs.Prelude.{Option, Some, None}
 use Rattle.keycode.specs.Tests.{pick}
 use Rattle.keycode.specs.Order.{compare_bytes}
 use Rattle.keycode.specs.Strings.{escape_byte, escape_body, escape}
@@ -21,6 +20,10 @@ use Rattle.keycode.specs.Prefix.{in_front, prefix_end, Under}
 use Rattle.keycode.proofs.Basics.{nope, Ordered, below, same, above, ordered}
 use Rattle.keycode.proofs.OrderLaws.{nat_equal, nat_greater, same_head, less_cases, head_less}
 use Rattle.keycode.proofs.NumberLaws.{Bytes}
+
+-- the first `keep` bytes of a prefix and then the byte `last`
+abbrev ending : ℕ → ℕ → End
+ending k l = record { keep = k; last = l }
 
 -- ---- what begins with the prefix is in its range
 
@@ -30,12 +33,12 @@ begins_least [] [] e = nope (cc)
 begins_least [] (y ∷ t) e = nope (cc)
 begins_least (x ∷ p) t e = begins_least p t (sym (same_head x (p ++ t) p) ∙ e)
 
-under_front : (x : ℕ) (k p : List ℕ) (u : End) → Under k p u → Under (x ∷ k) (x ∷ p) (in_front x u)
+under_front : (x : ℕ) (k p : List ℕ) (u : Option End) → Under k p u → Under (x ∷ k) (x ∷ p) (in_front x u)
 unfolding in_front
-under_front x k p (Raised n l) h = same_head x k (take n p ++ (l ∷ [])) ∙ h
-under_front x k p Unbounded h = go (ltb x 255)
+under_front x k p (Some e) h = same_head x k (take e.keep p ++ (e.last ∷ [])) ∙ h
+under_front x k p None h = go (ltb x 255)
   where
-    go : (b : Bool) → Under (x ∷ k) (x ∷ p) (pick b (Raised 0 (suc x)) Unbounded)
+    go : (b : Bool) → Under (x ∷ k) (x ∷ p) (pick b (Some (ending 0 (suc x))) None)
     go true = unfold compare_bytes in head_less x (suc x) (compare_bytes k []) (omega arith)
     go false = tt
 
@@ -55,7 +58,7 @@ cons_both : (y x : ℕ) (a b : List ℕ) → y ≡ x → a ≡ b → y ∷ a ≡
 cons_both y x a b e f = cc
 
 -- the heads agree, and the tails are in the range of the tail
-head_of : (x y : ℕ) (p k : List ℕ) (u : End) → y < 256 → (compare_bytes (y ∷ k) (x ∷ p) ≡ Less → ⊥) → Under (y ∷ k) (x ∷ p) (in_front x u)
+head_of : (x y : ℕ) (p k : List ℕ) (u : Option End) → y < 256 → (compare_bytes (y ∷ k) (x ∷ p) ≡ Less → ⊥) → Under (y ∷ k) (x ∷ p) (in_front x u)
     → (y ≡ x) × ((compare_bytes k p ≡ Less → ⊥) × Under k p u)
 unfolding compare_bytes in_front
 head_of x y p k u b l h = go u h (ordered y x)
@@ -63,16 +66,16 @@ head_of x y p k u b l h = go u h (ordered y x)
     tails : y ≡ x → compare_bytes k p ≡ Less → ⊥
     tails e q = l (rw (nat_equal y x e) q)
 
-    raised : x < y → (t : Bool) → ltb x 255 ≡ t → Under (y ∷ k) (x ∷ p) (pick t (Raised 0 (suc x)) Unbounded) → ⊥
+    raised : x < y → (t : Bool) → ltb x 255 ≡ t → Under (y ∷ k) (x ∷ p) (pick t (Some (ending 0 (suc x))) None) → ⊥
     raised q true f r = ⊎_elim (λ n. omega arith) (λ n. not_before_none k n.1) (less_cases y (suc x) (compare_bytes k []) r)
     raised q false f r = omega (arith, ltb-false x 255 f)
 
-    go : (v : End) → Under (y ∷ k) (x ∷ p) (in_front x v) → Ordered y x → (y ≡ x) × ((compare_bytes k p ≡ Less → ⊥) × Under k p v)
+    go : (v : Option End) → Under (y ∷ k) (x ∷ p) (in_front x v) → Ordered y x → (y ≡ x) × ((compare_bytes k p ≡ Less → ⊥) × Under k p v)
     go v g (below q) = absurd (l (head_less y x (compare_bytes k p) q))
-    go (Raised n e) g (same q) = (q, (tails q, rw (nat_equal y x q) at g))
-    go Unbounded g (same q) = (q, (tails q, tt))
-    go (Raised n e) g (above q) = let z : Greater ≡ Less = rw (nat_greater y x q) at g in nope (cc)
-    go Unbounded g (above q) = absurd (raised q (ltb x 255) refl g)
+    go (Some e) g (same q) = (q, (tails q, rw (nat_equal y x q) at g))
+    go None g (same q) = (q, (tails q, tt))
+    go (Some e) g (above q) = let z : Greater ≡ Less = rw (nat_greater y x q) at g in nope (cc)
+    go None g (above q) = absurd (raised q (ltb x 255) refl g)
 
 pub range_begins : (p k : List ℕ) → Bytes k → (compare_bytes k p ≡ Less → ⊥) → Under k p (prefix_end p) → (t : List ℕ) × (k ≡ p ++ t)
 unfolding prefix_end
@@ -83,34 +86,18 @@ range_begins (x ∷ p) (y ∷ k) b l h =
     let r = range_begins p k (λ i. b (suc i)) a.1.0 a.1.1 in
     (r.0, cons_both y x k (p ++ r.0) a.0 r.1)
 
--- ---- from the back, as the code goes
+-- ---- by the place of the last byte that is not ff, as the code finds it
 
-end_raised : (xs : List ℕ) (x : ℕ) → x < 255 → prefix_end (xs ++ (x ∷ [])) ≡ Raised (length xs) (x + 1)
+pub end_none : (p : List ℕ) → ((k : ℕ) → k < length p → get_or p k 0 < 255 → ⊥) → None ≡ prefix_end p
 unfolding prefix_end in_front
-end_raised [] x h = rw (lt-ltb x 255 h, add-one)
-end_raised (y ∷ xs) x h = rw (end_raised xs x h)
+end_none [] f = refl
+end_none (x ∷ p) f = let g : 255 ≤ x = omega (arith, f 0) in rw (← end_none p (λ k h. f (suc k) (omega arith)), le-ltb x 255 g)
 
-end_cut : (xs : List ℕ) (x : ℕ) → 255 ≤ x → prefix_end (xs ++ (x ∷ [])) ≡ prefix_end xs
+pub end_found : (p : List ℕ) (i : ℕ) → i < length p → get_or p i 0 < 255 → ((k : ℕ) → i + 1 ≤ k → k < length p → get_or p k 0 < 255 → ⊥) → Some (ending i (get_or p i 0 + 1)) ≡ prefix_end p
 unfolding prefix_end in_front
-end_cut [] x h = rw (le-ltb x 255 h)
-end_cut (y ∷ xs) x h = rw (end_cut xs x h)
-
-module _ (p : List ℕ) (i : ℕ) (g : i ≤ length p) (so : prefix_end p ≡ prefix_end (take i p)) where
-  pub last_none : i ≤ 0 → Unbounded ≡ prefix_end p
-  unfolding prefix_end
-  last_none h = let e : i ≡ 0 = omega arith in sym (so ∙ ap (λ (k : ℕ). prefix_end (take k p)) e)
-
-  module _ (h : 0 < i) where
-    last : take i p ≡ take (i - 1) p ++ (get_or p (i - 1) 0 ∷ [])
-    last = let e : i ≡ suc (i - 1) = omega arith in ap (λ (k : ℕ). take k p) e ∙ take-suc p (i - 1) 0 (omega arith)
-
-    pub last_found : get_or p (i - 1) 0 < 255 → Raised (i - 1) (get_or p (i - 1) 0 + 1) ≡ prefix_end p
-    last_found l =
-        let n : length (take (i - 1) p) ≡ i - 1 = length-take-le (i - 1) p (omega arith) in
-        sym (so ∙ ap prefix_end last ∙ end_raised (take (i - 1) p) (get_or p (i - 1) 0) l ∙ rw n)
-
-    pub last-passed : 255 ≤ get_or p (i - 1) 0 → prefix_end p ≡ prefix_end (take (i - 1) p)
-    last-passed l = so ∙ ap prefix_end last ∙ end_cut (take (i - 1) p) (get_or p (i - 1) 0) l
+end_found [] i h l f = absurd (omega arith)
+end_found (x ∷ p) zero h l f = rw (← end_none p (λ k g. f (suc k) (omega arith) (omega arith)), lt-ltb x 255 l, add-one)
+end_found (x ∷ p) (suc i) h l f = rw (← end_found p i (omega arith) l (λ k g m. f (suc k) (omega arith) (omega arith)))
 
 -- ---- a user prefix
 

@@ -5,18 +5,17 @@ use mathlib.Core.Path.{◌≡◌, refl, sym, ap, ◌∙◌}
 use mathlib.Core.Bool.{Bool, true, false}
 use mathlib.Core.List.{List, [], ◌∷◌, ◌++◌, append_assoc}
 use native.Mathlib.Nat.{add_assoc, add-zero}
+use native.Mathlib.Decide.{dec_lt}
 use native.Mathlib.Omega.{arith}
 use native.Mathlib.Numerals.{add-one, towards_suc}
 use lib.ListN.{length, drop, get_or, set, length-append, length-drop, drop_of_length-le}
 use lib.Seq.{drop-cons, drop-drop}
 use lib.Dec.{eqb, leb}
 use borrow.Author.Tests.{ne_eqb, eqb-true, le-leb, lt-leb, leb-true}
-use Rattle.std.specs.Prelude.{Ok, Err, Result, ℕ}
+use Rattle.std.specs.Prelude.{Ok, Err, Result, Option, Some, None, ℕ}
 use Rattle.keycode.specs.declared.refusal.Refusal.TheVariants.{BadStore}
 use Rattle.keycode.specs.declared.strings.Fault.{Fault}
 use Rattle.keycode.specs.declared.strings.Reason.TheVariants.{BadEscape, NoEnd, OverLimit}
-use Rattle.keycode.specs.declared.strings.Step.{Step}
-use Rattle.keycode.specs.declared.strings.Step.TheVariants.{Byte, Closed, Bad}
 use Rattle.keycode.specs.Tests.{pick}
 use Rattle.keycode.specs.Limits.{max_key}
 use Rattle.keycode.specs.Buffer.{put}
@@ -95,21 +94,25 @@ module _ (key d out : List ℕ) (at o : ℕ) (room : at + length (escape key) �
 
 -- ---- what the code of a step knows
 
+-- what a step answers
+abbrev Standing : Type 0
+Standing = Result (Option (ℕ × ℕ)) Fault
+
 module _ (s : List ℕ) (i : ℕ) where
-  pub step_past : length s ≤ i → Bad (fault NoEnd i) ≡ step_at i (drop i s)
+  pub step_past : length s ≤ i → Err (fault NoEnd i) ≡ step_at i (drop i s)
   unfolding step_at
   step_past h = rw (drop_of_length-le s h)
 
   module _ (h : i < length s) where
-    pub step_other : (get_or s i 0 ≡ 0 → ⊥) → Byte (get_or s i 0) (i + 1) ≡ step_at i (drop i s)
+    pub step_other : (get_or s i 0 ≡ 0 → ⊥) → Ok (Some (get_or s i 0, i + 1)) ≡ step_at i (drop i s)
     step_other n = other (get_or s i 0) n ∙ ap (step_at i) (sym (drop-cons s i 0 h))
       where
-        other : (x : ℕ) → (x ≡ 0 → ⊥) → Byte x (i + 1) ≡ step_at i (x ∷ drop (suc i) s)
+        other : (x : ℕ) → (x ≡ 0 → ⊥) → Ok (Some (x, i + 1)) ≡ step_at i (x ∷ drop (suc i) s)
         other zero n = absurd (n refl)
         other (suc x) n = unfold step_at in refl
 
     module _ (e : get_or s i 0 ≡ 0) where
-      pub step-last : length s ≤ i + 1 → Bad (fault NoEnd (i + 1)) ≡ step_at i (drop i s)
+      pub step-last : length s ≤ i + 1 → Err (fault NoEnd (i + 1)) ≡ step_at i (drop i s)
       unfolding step_at
       step-last g = rw (drop-cons s i 0, e, drop_of_length-le s {i = suc i} (omega arith))
 
@@ -117,18 +120,18 @@ module _ (s : List ℕ) (i : ℕ) where
         two : drop i s ≡ 0 ∷ get_or s (i + 1) 0 ∷ drop (i + 2) s
         two = simp towards_suc (rw (drop-cons s i 0, e, drop-cons s (suc i) 0 (omega arith)))
 
-        pub step_closed : get_or s (i + 1) 0 ≡ 0 → Closed ≡ step_at i (drop i s)
+        pub step_closed : get_or s (i + 1) 0 ≡ 0 → Ok None ≡ step_at i (drop i s)
         unfolding step_at
         step_closed f = rw (two, f)
 
-        pub step-zero : get_or s (i + 1) 0 ≡ 255 → Byte 0 (i + 2) ≡ step_at i (drop i s)
+        pub step-zero : get_or s (i + 1) 0 ≡ 255 → Ok (Some (0, i + 2)) ≡ step_at i (drop i s)
         unfolding step_at
         step-zero f = rw (two, f)
 
-        pub step-bad : (get_or s (i + 1) 0 ≡ 0 → ⊥) → (get_or s (i + 1) 0 ≡ 255 → ⊥) → Bad (fault BadEscape (i + 1)) ≡ step_at i (drop i s)
+        pub step-bad : (get_or s (i + 1) 0 ≡ 0 → ⊥) → (get_or s (i + 1) 0 ≡ 255 → ⊥) → Err (fault BadEscape (i + 1)) ≡ step_at i (drop i s)
         step-bad f k = rw two (bad (get_or s (i + 1) 0) f k)
           where
-            bad : (y : ℕ) → (y ≡ 0 → ⊥) → (y ≡ 255 → ⊥) → Bad (fault BadEscape (i + 1)) ≡ step_at i (0 ∷ y ∷ drop (i + 2) s)
+            bad : (y : ℕ) → (y ≡ 0 → ⊥) → (y ≡ 255 → ⊥) → Err (fault BadEscape (i + 1)) ≡ step_at i (0 ∷ y ∷ drop (i + 2) s)
             bad zero n m = absurd (n refl)
             bad (suc y) n m = unfold step_at in rw (ne_eqb (suc y) 255 m)
 
@@ -149,40 +152,40 @@ unfolding well_escaped escape_byte
 well_byte zero t = refl
 well_byte (suc b) t = refl
 
-stepped : (i b j : ℕ) (r : List ℕ) → step_at i r ≡ Byte b j → (j ≡ i + length (escape_byte b)) × (r ≡ escape_byte b ++ drop (length (escape_byte b)) r)
+stepped : (i b j : ℕ) (r : List ℕ) → step_at i r ≡ Ok (Some (b, j)) → (j ≡ i + length (escape_byte b)) × (r ≡ escape_byte b ++ drop (length (escape_byte b)) r)
 unfolding step_at escape_byte
 stepped i b j [] e = nope (cc)
 stepped i b j (zero ∷ []) e = nope (cc)
 stepped i b j (zero ∷ zero ∷ r) e = nope (cc)
 stepped i b j (zero ∷ suc y ∷ r) e = go (eqb (suc y) 255) refl e
   where
-    go : (t : Bool) → eqb (suc y) 255 ≡ t → pick t (Byte 0 (i + 2)) (Bad (fault BadEscape (i + 1))) ≡ Byte b j
+    go : (t : Bool) → eqb (suc y) 255 ≡ t → pick {A = Standing} t (Ok (Some (0, i + 2))) (Err (fault BadEscape (i + 1))) ≡ Ok (Some (b, j))
         → (j ≡ i + length (escape_byte b)) × (0 ∷ suc y ∷ r ≡ escape_byte b ++ drop (length (escape_byte b)) (0 ∷ suc y ∷ r))
-    go true f p = let eb : b ≡ 0 = cc in let ej : j ≡ i + 2 = cc in rw (eb, ej, eqb-true (suc y) 255 f) (refl, refl)
+    go true f p = let q : ◌≡◌ {A = ℕ × ℕ} (b, j) (0, i + 2) = cc in rw (ap (λ (x : ℕ × ℕ). x.0) q, ap (λ (x : ℕ × ℕ). x.1) q, eqb-true (suc y) 255 f) (refl, refl)
     go false f p = nope (cc)
-stepped i b j (suc x ∷ r) e = let eb : b ≡ suc x = cc in let ej : j ≡ i + 1 = cc in rw (eb, ej) (refl, refl)
+stepped i b j (suc x ∷ r) e = let q : ◌≡◌ {A = ℕ × ℕ} (b, j) (suc x, i + 1) = cc in rw (ap (λ (x : ℕ × ℕ). x.0) q, ap (λ (x : ℕ × ℕ). x.1) q) (refl, refl)
 
-closed_ill : (i : ℕ) (r : List ℕ) → step_at i r ≡ Closed → (well_escaped r ≡ false) × ((left : ℕ) → scanned left i r ≡ Ok i)
+closed_ill : (i : ℕ) (r : List ℕ) → step_at i r ≡ Ok None → (well_escaped r ≡ false) × ((left : ℕ) → scanned left i r ≡ Ok i)
 unfolding step_at well_escaped scanned
 closed_ill i [] e = nope (cc)
 closed_ill i (zero ∷ []) e = nope (cc)
 closed_ill i (zero ∷ zero ∷ r) e = (refl, λ left. refl)
 closed_ill i (zero ∷ suc y ∷ r) e = go (eqb (suc y) 255) e
   where
-    go : (t : Bool) → pick t (Byte 0 (i + 2)) (Bad (fault BadEscape (i + 1))) ≡ Closed
+    go : (t : Bool) → pick {A = Standing} t (Ok (Some (0, i + 2))) (Err (fault BadEscape (i + 1))) ≡ Ok None
         → (pick t (well_escaped r) false ≡ false) × ((left : ℕ) → pick t (one_more left (i + 1) (λ l. scanned l (i + 2) r)) (Err (fault BadEscape (i + 1))) ≡ Ok i)
     go true p = nope (cc)
     go false p = nope (cc)
 closed_ill i (suc x ∷ r) e = nope (cc)
 
-bad_ill : (i : ℕ) (r : List ℕ) (w : Fault) → step_at i r ≡ Bad w → (0 < length r → well_escaped r ≡ false) × ((left : ℕ) → scanned left i r ≡ Err w)
+bad_ill : (i : ℕ) (r : List ℕ) (w : Fault) → step_at i r ≡ Err w → (0 < length r → well_escaped r ≡ false) × ((left : ℕ) → scanned left i r ≡ Err w)
 unfolding step_at well_escaped scanned
 bad_ill i [] w e = (λ h. absurd (omega arith), λ left. cc)
 bad_ill i (zero ∷ []) w e = (λ h. refl, λ left. cc)
 bad_ill i (zero ∷ zero ∷ r) w e = nope (cc)
 bad_ill i (zero ∷ suc y ∷ r) w e = go (eqb (suc y) 255) e
   where
-    go : (t : Bool) → pick t (Byte 0 (i + 2)) (Bad (fault BadEscape (i + 1))) ≡ Bad w
+    go : (t : Bool) → pick {A = Standing} t (Ok (Some (0, i + 2))) (Err (fault BadEscape (i + 1))) ≡ Err w
         → (0 < length (0 ∷ suc y ∷ r) → pick t (well_escaped r) false ≡ false) × ((left : ℕ) → pick t (one_more left (i + 1) (λ l. scanned l (i + 2) r)) (Err (fault BadEscape (i + 1))) ≡ Err w)
     go true p = nope (cc)
     go false p = (λ h. refl, λ left. cc)
@@ -198,8 +201,8 @@ pub step_on_lem : {s : List ℕ} {i b j : ℕ} → AtByte s i b j → i < j
 step_on_lem {s} {i} {b} {j} a = omega (arith, a.next, (byte_length b).0)
 
 -- what each loop knows after a step at index i
-module _ (s : List ℕ) (i : ℕ) (h : i ≤ length s) (got : Step) (e : got ≡ step_at i (drop i s)) where
-  pub at_byte : (b j : ℕ) → got ≡ Byte b j → AtByte s i b j
+module _ (s : List ℕ) (i : ℕ) (h : i ≤ length s) (got : Standing) (e : got ≡ step_at i (drop i s)) where
+  pub at_byte : (b j : ℕ) → got ≡ Ok (Some (b, j)) → AtByte s i b j
   at_byte b j p =
       let q = stepped i b j (drop i s) (sym e ∙ p) in
       let d : drop (length (escape_byte b)) (drop i s) ≡ drop j s = drop-drop (length (escape_byte b)) i s ∙ ap (λ (k : ℕ). drop k s) (sym q.0) in
@@ -207,10 +210,10 @@ module _ (s : List ℕ) (i : ℕ) (h : i ≤ length s) (got : Step) (e : got ≡
       let l : length s - i ≡ length (escape_byte b) + (length s - j) = sym (length-drop i s) ∙ ap length f ∙ length-append (escape_byte b) (drop j s) ∙ ap (λ (k : ℕ). length (escape_byte b) + k) (length-drop j s) in
       record { next = q.0; here = f; within = omega (arith, (byte_length b).0) }
 
-  pub closed_here : got ≡ Closed → (well_escaped (drop i s) ≡ false) × ((left : ℕ) → scanned left i (drop i s) ≡ Ok i)
+  pub closed_here : got ≡ Ok None → (well_escaped (drop i s) ≡ false) × ((left : ℕ) → scanned left i (drop i s) ≡ Ok i)
   closed_here p = closed_ill i (drop i s) (sym e ∙ p)
 
-  pub bad-here : (w : Fault) → got ≡ Bad w → (i < length s → well_escaped (drop i s) ≡ false) × ((left : ℕ) → scanned left i (drop i s) ≡ Err w)
+  pub bad-here : (w : Fault) → got ≡ Err w → (i < length s → well_escaped (drop i s) ≡ false) × ((left : ℕ) → scanned left i (drop i s) ≡ Err w)
   bad-here w p = let q = bad_ill i (drop i s) w (sym e ∙ p) in (λ g. q.0 (omega (arith, length-drop i s)), q.1)
 
 -- ---- the loop that scans
@@ -290,9 +293,17 @@ unescape_on {s} {d} {out} {o} {i} {b} {j} a w t =
 pub never : {C : Type 0} {t : Bool} → t ≡ true → t ≡ false → C
 never e f = nope (cc)
 
-pub unescape_all : (s : List ℕ) (i : ℕ) → length s ≤ i → unescaped (drop i s) ≡ []
+unescape_all : (s : List ℕ) (i : ℕ) → length s ≤ i → unescaped (drop i s) ≡ []
 unfolding unescaped
 unescape_all s i h = rw (drop_of_length-le s h)
+
+-- well escaped bytes have a fault nowhere but at their end
+pub unescape_bad : (s : List ℕ) (i : ℕ) → i ≤ length s → well_escaped (drop i s) ≡ true → (got : Standing) → got ≡ step_at i (drop i s) → (w : Fault) → got ≡ Err w → unescaped (drop i s) ≡ []
+unescape_bad s i h t got e w p = go (dec_lt i (length s))
+  where
+    go : Dec (i < length s) → unescaped (drop i s) ≡ []
+    go (yes g) = never t ((bad-here s i h got e w p).0 g)
+    go (no f) = unescape_all s i (omega arith)
 
 -- ---- escaping and unescaping undo each other
 

@@ -1,15 +1,13 @@
 -- Byte strings inside keys. Document 01, 'Key bytes': each 00 of the string becomes 00 ff, then 00 00 ends it; any other byte
 -- after 00, or no end, is a fault. What a fault is and at which byte it shows is told here, for the decoder. Assumes nothing.
 use Rattle.keycode.specs.declared.refusal.Refusal.{Refusal}
-use Rattle.std.specs.Prelude.{ℕ, zero, suc, ◌+◌, Bool, true, false, List, [], ◌∷◌, ◌++◌, length, eqb, leb, Result, Ok, Err}
+use Rattle.std.specs.Prelude.{ℕ, zero, suc, ◌+◌, Bool, true, false, List, [], ◌∷◌, ◌++◌, length, eqb, leb, Result, Ok, Err, Option, Some, None}
 use Rattle.keycode.specs.Tests.{pick}
 use Rattle.keycode.specs.Limits.{max_key}
 use Rattle.keycode.specs.declared.refusal.Refusal.TheVariants.{BadStore}
 use Rattle.keycode.specs.declared.strings.Fault.{Fault}
 use Rattle.keycode.specs.declared.strings.Reason.{Reason}
 use Rattle.keycode.specs.declared.strings.Reason.TheVariants.{BadEscape, NoEnd, OverLimit}
-use Rattle.keycode.specs.declared.strings.Step.{Step}
-use Rattle.keycode.specs.declared.strings.Step.TheVariants.{Byte, Closed, Bad}
 
 -- a byte, escaped
 unfoldable pub escape_byte : ℕ → List ℕ
@@ -52,12 +50,12 @@ abbrev pub fault : Reason → ℕ → Fault
 fault w i = record { reason = w; at = i }
 
 -- what stands at index i of a key, where the bytes from there on are given: a byte of the string with the index after it, the end, or a fault
-unfoldable pub step_at : ℕ → List ℕ → Step
-step_at i [] = Bad (fault NoEnd i)
-step_at i (zero ∷ []) = Bad (fault NoEnd (i + 1))
-step_at i (zero ∷ zero ∷ r) = Closed
-step_at i (zero ∷ suc y ∷ r) = pick (eqb (suc y) 255) (Byte 0 (i + 2)) (Bad (fault BadEscape (i + 1)))
-step_at i (suc x ∷ r) = Byte (suc x) (i + 1)
+unfoldable pub step_at : ℕ → List ℕ → Result (Option (ℕ × ℕ)) Fault
+step_at i [] = Err (fault NoEnd i)
+step_at i (zero ∷ []) = Err (fault NoEnd (i + 1))
+step_at i (zero ∷ zero ∷ r) = Ok None
+step_at i (zero ∷ suc y ∷ r) = pick (eqb (suc y) 255) (Ok (Some (0, i + 2))) (Err (fault BadEscape (i + 1)))
+step_at i (suc x ∷ r) = Ok (Some (suc x, i + 1))
 
 -- one more byte of a string of which `left` more are allowed; i is the last of its escaped bytes
 abbrev pub one_more : ℕ → ℕ → (ℕ → Result ℕ Fault) → Result ℕ Fault

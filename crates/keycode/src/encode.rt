@@ -43,7 +43,7 @@ fn encode_number(tag: u8, version: u64, out: &mut [u8]) -> Result<usize, Refusal
 pub fn encode_next_version(out: &mut [u8]) -> Result<usize, Refusal>
     ensures { Encodes [] (encode next_version) out.old result out.new }
 {
-    if out.len() < 1 {
+    if out.is_empty() {
         return Err(Refusal::BadRequest);
     }
     out[0] = 0;
@@ -65,54 +65,38 @@ pub fn encode_txn_active_snapshot(version: u64, out: &mut [u8]) -> Result<usize,
 pub fn encode_txn_write(version: u64, key: &[u8], out: &mut [u8]) -> Result<usize, Refusal>
     ensures { Encodes key.now (encode (txn_write version key.now)) out.old result out.new }
 {
-    match measured(key, 11, out.len()) {
-        Ok(n) => {
-            out[0] = 3;
-            put_number(version, 8, out, 1);
-            escape_into(key, out, 9);
-            Ok(n)
-        }
-        Err(r) => Err(r),
-    }
+    let n = measured(key, 11, out.len())?;
+    out[0] = 3;
+    put_number(version, 8, out, 1);
+    escape_into(key, out, 9);
+    Ok(n)
 }
 
 pub fn encode_version(key: &[u8], version: u64, out: &mut [u8]) -> Result<usize, Refusal>
     ensures { Encodes key.now (encode (version_key key.now version)) out.old result out.new }
 {
-    match measured(key, 11, out.len()) {
-        Ok(n) => {
-            out[0] = 4;
-            let o = escape_into(key, out, 1);
-            put_number(version, 8, out, o);
-            Ok(n)
-        }
-        Err(r) => Err(r),
-    }
+    let n = measured(key, 11, out.len())?;
+    out[0] = 4;
+    let o = escape_into(key, out, 1);
+    put_number(version, 8, out, o);
+    Ok(n)
 }
 
 pub fn encode_unversioned(key: &[u8], out: &mut [u8]) -> Result<usize, Refusal>
     ensures { Encodes key.now (encode (unversioned key.now)) out.old result out.new }
 {
-    match measured(key, 3, out.len()) {
-        Ok(n) => {
-            out[0] = 5;
-            escape_into(key, out, 1);
-            Ok(n)
-        }
-        Err(r) => Err(r),
-    }
+    let n = measured(key, 3, out.len())?;
+    out[0] = 5;
+    escape_into(key, out, 1);
+    Ok(n)
 }
 
 // What the Version keys of the user keys that begin with `prefix` begin with.
 pub fn encode_version_prefix(prefix: &[u8], out: &mut [u8]) -> Result<usize, Refusal>
     ensures { Encodes prefix.now (searched prefix.now) out.old result out.new }
 {
-    match measured(prefix, 1, out.len()) {
-        Ok(n) => {
-            out[0] = 4;
-            escape_body_into(prefix, out, 1);
-            Ok(n)
-        }
-        Err(r) => Err(r),
-    }
+    let n = measured(prefix, 1, out.len())?;
+    out[0] = 4;
+    escape_body_into(prefix, out, 1);
+    Ok(n)
 }

@@ -31,21 +31,6 @@ pub fn get_number(s: &[u8]) -> u64
     n
 }
 
-// The number of the eight bytes from index at on. Its lowest byte comes first, in the order that a compiler reads as one load.
-pub(crate) fn eight_at(s: &[u8], at: usize) -> u64
-    requires { at + 8 ≤ length s.now }
-    ensures { result ≡ num (take 8 (drop at s.now)) }
-{
-    wide(s[at + 7])
-        + wide(s[at + 6]) * 0x100
-        + wide(s[at + 5]) * 0x1_0000
-        + wide(s[at + 4]) * 0x100_0000
-        + wide(s[at + 3]) * 0x1_0000_0000
-        + wide(s[at + 2]) * 0x100_0000_0000
-        + wide(s[at + 1]) * 0x1_0000_0000_0000
-        + wide(s[at]) * 0x100_0000_0000_0000
-}
-
 // A byte as a number; its bound is what the sums above rest on.
 fn wide(b: u8) -> u64
     ensures { (result ≡ b) × (result < 256) }

@@ -2,26 +2,20 @@
 ghost use Rattle.std.specs.Prelude.{◌≡◌};
 ghost use Rattle.keycode.specs.Prefix.{prefix_end};
 
-// The end, excluded: the first `keep` bytes of the prefix and then the byte `last`; or that there is none.
+// The first `keep` bytes of the prefix and then the byte `last`.
 #[derive(Clone, Copy)]
-pub enum End {
-    Unbounded,
-    Raised { keep: usize, last: u8 },
+pub struct End {
+    pub keep: usize,
+    pub last: u8,
 }
 
-pub fn prefix_end(prefix: &[u8]) -> End
+// The end, excluded; none where every byte of the prefix is ff.
+pub fn prefix_end(prefix: &[u8]) -> Option<End>
     ensures { result ≡ prefix_end prefix.now }
 {
-    let mut i = prefix.len();
-    while 0 < i {
-        let j = i - 1;
-        if prefix[j] < 255 {
-            return End::Raised {
-                keep: j,
-                last: prefix[j] + 1,
-            };
-        }
-        i = j;
-    }
-    End::Unbounded
+    let keep = prefix.iter().rposition(|&b| b < 255)?;
+    Some(End {
+        keep,
+        last: prefix[keep] + 1,
+    })
 }

@@ -27,14 +27,6 @@ pub struct Fault {
     pub at: usize,
 }
 
-// What stands at a place of an escaped string: a byte of the string with the place after it, or the string's end.
-#[derive(Clone, Copy)]
-pub enum Step {
-    Byte(u8, usize),
-    Closed,
-    Bad(Fault),
-}
-
 // How many bytes a byte is, escaped.
 pub fn escaped_byte_len(b: u8) -> usize
     ensures { result ≡ length (escape_byte b) }
@@ -95,36 +87,36 @@ pub fn escape_into(key: &[u8], out: &mut [u8], at: usize) -> usize
     o + 2
 }
 
-// What stands at index i of escaped bytes.
-pub fn step_at(s: &[u8], i: usize) -> Step
+// What stands at index i of escaped bytes: a byte of the string with the index after it, or nothing where the string ends.
+pub fn step_at(s: &[u8], i: usize) -> Result<Option<(u8, usize)>, Fault>
     requires { i ≤ length s.now }
     ensures { result ≡ step_at i (drop i s.now) }
 {
     if s.len() <= i {
-        return Step::Bad(Fault {
+        return Err(Fault {
             reason: Reason::NoEnd,
             at: i,
         });
     }
     let x = s[i];
     if x != 0 {
-        return Step::Byte(x, i + 1);
+        return Ok(Some((x, i + 1)));
     }
     let j = i + 1;
     if s.len() <= j {
-        return Step::Bad(Fault {
+        return Err(Fault {
             reason: Reason::NoEnd,
             at: j,
         });
     }
     let y = s[j];
     if y == 0 {
-        return Step::Closed;
+        return Ok(None);
     }
     if y == 255 {
-        Step::Byte(0, i + 2)
+        Ok(Some((0, i + 2)))
     } else {
-        Step::Bad(Fault {
+        Err(Fault {
             reason: Reason::BadEscape,
             at: j,
         })
@@ -138,26 +130,17 @@ pub(crate) fn scan(s: &[u8], at: usize) -> Result<usize, Fault>
 {
     let mut left = MAX_KEY;
     let mut i = at;
-    loop {
-        match step_at(s, i) {
-            Step::Byte(_, j) => {
-                if left == 0 {
-                    return Err(Fault {
-                        reason: Reason::OverLimit,
-                        at: j - 1,
-                    });
-                }
-                left -= 1;
-                i = j;
-            }
-            Step::Closed => {
-                return Ok(i);
-            }
-            Step::Bad(f) => {
-                return Err(f);
-            }
+    while let Some((_, j)) = step_at(s, i)? {
+        if left == 0 {
+            return Err(Fault {
+                reason: Reason::OverLimit,
+                at: j - 1,
+            });
         }
+        left -= 1;
+        i = j;
     }
+    Ok(i)
 }
 
 // How many bytes the string of escaped bytes with no end has; 12 where they are escaped badly or it is over the limit.
@@ -167,18 +150,11 @@ fn plain_len(s: &[u8]) -> Result<usize, Refusal>
     let mut n = 0;
     let mut i = 0;
     while i < s.len() {
-        match step_at(s, i) {
-            Step::Byte(_, j) => {
-                n += 1;
-                i = j;
-            }
-            Step::Closed => {
-                return Err(Refusal::BadStore);
-            }
-            Step::Bad(_) => {
-                return Err(Refusal::BadStore);
-            }
-        }
+        let Ok(Some((_, j))) = step_at(s, i) else {
+            return Err(Refusal::BadStore);
+        };
+        n += 1;
+        i = j;
     }
     if MAX_KEY < n {
         Err(Refusal::BadStore)
@@ -194,20 +170,10 @@ fn unescape_into(s: &[u8], out: &mut [u8])
 {
     let mut o = 0;
     let mut i = 0;
-    while i < s.len() {
-        match step_at(s, i) {
-            Step::Byte(b, j) => {
-                out[o] = b;
-                o += 1;
-                i = j;
-            }
-            Step::Closed => {
-                return;
-            }
-            Step::Bad(_) => {
-                return;
-            }
-        }
+    while let Ok(Some((b, j))) = step_at(s, i) {
+        out[o] = b;
+        o += 1;
+        i = j;
     }
 }
 
@@ -215,14 +181,10 @@ fn unescape_into(s: &[u8], out: &mut [u8])
 pub fn unescape(escaped: &[u8], out: &mut [u8]) -> Result<usize, Refusal>
     ensures { Unescapes escaped.now out.old result out.new }
 {
-    match plain_len(escaped) {
-        Ok(n) => {
-            if out.len() < n {
-                return Err(Refusal::BadRequest);
-            }
-            unescape_into(escaped, out);
-            Ok(n)
-        }
-        Err(r) => Err(r),
+    let n = plain_len(escaped)?;
+    if out.len() < n {
+        return Err(Refusal::BadRequest);
     }
+    unescape_into(escaped, out);
+    Ok(n)
 }

@@ -1,5 +1,5 @@
 // Decoding a key. `decode_why` finds the key, or the first fault with the byte that decides; the public `decode` forgets the fault and
-// answers 12, as document 01 has it.
+// answers 12.
 ghost use Rattle.std.specs.Prelude.{◌≡◌, length};
 ghost use Rattle.keycode.specs.Limits.{max_key};
 ghost use Rattle.keycode.specs.key.Keys.{exactly as exactly_of, string_at, decode_why, forget};
@@ -60,21 +60,19 @@ fn decode_why(key: &[u8]) -> Result<Key, Fault>
         0 => exactly(1, n, Key::NextVersion),
         1 => exactly(9, n, Key::TxnActive(first)),
         2 => exactly(9, n, Key::TxnActiveSnapshot(first)),
-        3 => match string_at(key, 9) {
-            Ok(i) => exactly(i + 2, n, Key::TxnWrite(first, Part { at: 9, len: i - 9 })),
-            Err(f) => Err(f),
-        },
-        4 => match string_at(key, 1) {
-            Ok(i) => {
-                let version = get_number(clip(key, i + 2, 8));
-                exactly(i + 10, n, Key::Version(Part { at: 1, len: i - 1 }, version))
-            }
-            Err(f) => Err(f),
-        },
-        5 => match string_at(key, 1) {
-            Ok(i) => exactly(i + 2, n, Key::Unversioned(Part { at: 1, len: i - 1 })),
-            Err(f) => Err(f),
-        },
+        3 => {
+            let i = string_at(key, 9)?;
+            exactly(i + 2, n, Key::TxnWrite(first, Part { at: 9, len: i - 9 }))
+        }
+        4 => {
+            let i = string_at(key, 1)?;
+            let version = get_number(clip(key, i + 2, 8));
+            exactly(i + 10, n, Key::Version(Part { at: 1, len: i - 1 }, version))
+        }
+        5 => {
+            let i = string_at(key, 1)?;
+            exactly(i + 2, n, Key::Unversioned(Part { at: 1, len: i - 1 }))
+        }
         _ => Err(Fault {
             reason: Reason::UnknownTag,
             at: 0,
@@ -86,8 +84,5 @@ fn decode_why(key: &[u8]) -> Result<Key, Fault>
 pub fn decode(key: &[u8]) -> Result<Key, Refusal>
     ensures { result ≡ forget (decode_why max_key key.now) }
 {
-    match decode_why(key) {
-        Ok(k) => Ok(k),
-        Err(_) => Err(Refusal::BadStore),
-    }
+    decode_why(key).map_err(|_| Refusal::BadStore)
 }

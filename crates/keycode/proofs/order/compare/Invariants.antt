@@ -1,12 +1,9 @@
--- `compare` goes by the numbers of eight bytes, then byte by byte.
-use Prim.Native.Nat.{◌≤◌, ◌-◌}
+-- `compare` passes over the eights that both have alike.
+use Prim.Native.Nat.{◌*◌}
 use mathlib.Core.Path.{◌≡◌}
-use lib.ListN.{length, drop}
+use lib.ListN.{length, take, drop}
 use Rattle.keycode.specs.Order.{compare_bytes}
 use Rattle.keycode.proofs.order.compare.Given as goal
 
-abbrev pub invariant-loop-i : goal.invariant-loop-i
-invariant-loop-i l = (l.i ≤ length l.a) × (l.i ≤ length l.b) × (compare_bytes l.a l.b ≡ compare_bytes (drop l.i l.a) (drop l.i l.b))
-
-abbrev pub decreases-loop-i : goal.decreases-loop-i
-decreases-loop-i l = length l.a - l.i
+abbrev pub invariant-loop-p : goal.invariant-loop-p
+invariant-loop-p l = compare_bytes (take l.n l.a) (take l.n l.b) ≡ compare_bytes (drop (length l.yielded * 8) (take l.n l.a)) (drop (length l.yielded * 8) (take l.n l.b))

@@ -1,18 +1,11 @@
-use mathlib.Core.Path.{sym, ap}
-use lib.Seq.{take-length}
-use Rattle.keycode.specs.Prefix.{prefix_end}
-use Rattle.keycode.proofs.PrefixLaws.{last_none, last_found, last-passed}
-use native.Mathlib.Omega.{arith}
+-- `prefix_end` raises the last byte that can be raised.
+use mathlib.Core.Path.{◌∙◌}
+use Rattle.std.proofs.Common.{rules}
+use Rattle.keycode.proofs.PrefixLaws.{end_none, end_found}
 use Rattle.keycode.proofs.prefix.prefix_end.Goals as goal
 
-pub loop-i-init : goal.loop-i-init
-loop-i-init c = (omega arith, ap prefix_end (sym (take-length c.args.prefix.now)))
-
-pub returns-then-prefix-j-lt255 : goal.returns-then-prefix-j-lt255
-returns-then-prefix-j-lt255 c = last_found c.args.prefix.now _ c.loop-i.invariant.0 c.loop-i.invariant.1 c.loop-i-test.true c.if-prefix-j-lt255.true
-
-pub loop-i-preserved : goal.loop-i-preserved
-loop-i-preserved c = (omega arith, last-passed c.args.prefix.now _ c.loop-i.invariant.0 c.loop-i.invariant.1 c.loop-i-test.true c.if-prefix-j-lt255.false)
+pub returns-in_err-keep : goal.returns-in_err-keep
+returns-in_err-keep c = c.from_residual.ensures ∙ end_none c.args.prefix.now (search rules)
 
 pub returns : goal.returns
-returns c = last_none c.args.prefix.now _ c.loop-i.invariant.0 c.loop-i.invariant.1 c.loop-i-test.false
+returns c = end_found c.args.prefix.now c.in_ok-keep.keep (search rules) (search rules) (search rules)

@@ -1,42 +1,23 @@
-use Rattle.keycode.proofs.BufferLaws.{lay-front, lay_end}
-use Rattle.keycode.proofs.StringLaws.{at_byte, step_on_lem, unescape_on, unescape_all, closed_here, bad-here, never}
+use mathlib.Core.Path.{ap, ◌∙◌}
+use Rattle.std.proofs.Common.{rules, Ok}
+use Rattle.keycode.proofs.BufferLaws.{lay_end}
+use Rattle.keycode.proofs.StringLaws.{at_byte, step_on_lem, unescape_on, unescape_bad, closed_here, never}
 use native.Mathlib.Omega.{arith}
 use Rattle.keycode.proofs.strings.unescape_into.Goals as goal
 
-pub loop-i-init : goal.loop-i-init
-loop-i-init c = (omega arith, c.requires.0, lay-front _ _ c.requires.1)
-
-pub step_at-requires : goal.step_at-requires
-step_at-requires c = c.loop-i.invariant.0
-
 pub bounds-out-o : goal.bounds-out-o
-bounds-out-o c = (unescape_on (at_byte c.args.s.now _ c.loop-i.invariant.0 _ c.step_at.ensures _ _ c.in-Byte.is) c.loop-i.invariant.2 c.loop-i.invariant.1).0
+bounds-out-o c = (unescape_on (at_byte c.args.s.now _ c.loop-b.invariant.0 _ c.step_at.ensures _ _ (c.in-Ok-Some.is ∙ ap Ok c.in-Ok-Some.field-0-is)) c.loop-b.invariant.2 c.loop-b.invariant.1).0
 
-pub overflow_add-o : goal.overflow_add-o
-overflow_add-o c = omega (arith, (unescape_on (at_byte c.args.s.now _ c.loop-i.invariant.0 _ c.step_at.ensures _ _ c.in-Byte.is) c.loop-i.invariant.2 c.loop-i.invariant.1).0)
+pub loop-b-smaller : goal.loop-b-smaller
+loop-b-smaller c = let a = at_byte c.args.s.now _ c.loop-b.invariant.0 _ c.step_at.ensures _ _ (c.in-Ok-Some.is ∙ ap Ok c.in-Ok-Some.field-0-is) in omega (arith, a.within, step_on_lem a)
 
-pub loop-i-smaller : goal.loop-i-smaller
-loop-i-smaller c = let a = at_byte c.args.s.now _ c.loop-i.invariant.0 _ c.step_at.ensures _ _ c.in-Byte.is in omega (arith, a.within, step_on_lem a)
+pub loop-b-preserved : goal.loop-b-preserved
+loop-b-preserved c =
+    let a = at_byte c.args.s.now _ c.loop-b.invariant.0 _ c.step_at.ensures _ _ (c.in-Ok-Some.is ∙ ap Ok c.in-Ok-Some.field-0-is) in
+    let q = unescape_on a c.loop-b.invariant.2 c.loop-b.invariant.1 in (a.within, q.2, q.1)
 
-pub loop-i-preserved : goal.loop-i-preserved
-loop-i-preserved c =
-    let a = at_byte c.args.s.now _ c.loop-i.invariant.0 _ c.step_at.ensures _ _ c.in-Byte.is in
-    let q = unescape_on a c.loop-i.invariant.2 c.loop-i.invariant.1 in (a.within, q.2, q.1)
+pub returns-in_default : goal.returns-in_default
+returns-in_default c = never c.loop-b.invariant.1 (closed_here c.args.s.now _ c.loop-b.invariant.0 _ c.step_at.ensures (search rules)).0
 
-pub shape_of-out-in-Closed : goal.shape_of-out-in-Closed
-shape_of-out-in-Closed c = c.loop-i.invariant.2.long
-
-pub returns-in-Closed : goal.returns-in-Closed
-returns-in-Closed c = never c.loop-i.invariant.1 (closed_here c.args.s.now _ c.loop-i.invariant.0 _ c.step_at.ensures c.in-Closed.is).0
-
-pub shape_of-out-in-Bad : goal.shape_of-out-in-Bad
-shape_of-out-in-Bad c = c.loop-i.invariant.2.long
-
-pub returns-in-Bad : goal.returns-in-Bad
-returns-in-Bad c = never c.loop-i.invariant.1 ((bad-here c.args.s.now _ c.loop-i.invariant.0 _ c.step_at.ensures _ c.in-Bad.is).0 c.loop-i-test.true)
-
-pub shape_of-out : goal.shape_of-out
-shape_of-out c = c.loop-i.invariant.2.long
-
-pub returns : goal.returns
-returns c = (lay_end c.loop-i.invariant.2 (unescape_all c.args.s.now _ c.loop-i-test.false)).1
+pub returns-in_default-2 : goal.returns-in_default-2
+returns-in_default-2 c = (lay_end c.loop-b.invariant.2 (unescape_bad c.args.s.now _ c.loop-b.invariant.0 c.loop-b.invariant.1 _ c.step_at.ensures _ c.in_default.is)).1
