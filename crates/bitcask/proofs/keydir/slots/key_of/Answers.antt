@@ -1,5 +1,4 @@
 -- `key_of` hands back a slot's key.
-use mathlib.Core.Path.{refl}
 use Rattle.bitcask.proofs.keydir.SlotLaws.{key-is}
 use Rattle.bitcask.proofs.keydir.slots.key_of.Goals as goal
 
