@@ -10,14 +10,14 @@ pub returns-in-Ok : goal.returns-in-Ok
 returns-in-Ok c =
     let a = c.args in
     elim c.in-Ok.is [
-      inl e ↦ below_at a.log.now a.key.now a.table.now a.count _ c.find.ensures _ e
-    | inr e ↦ below-before a.log.now a.key.now a.table.now a.count _ c.find.ensures _ e
+      | inl e ↦ below_at a.log.now a.key.now a.table.now a.count _ c.find.ensures _ e
+      | inr e ↦ below-before a.log.now a.key.now a.table.now a.count _ c.find.ensures _ e
     ]
 
 pub returns-in-Ok-2 : goal.returns-in-Ok-2
 returns-in-Ok-2 c =
     let a = c.args in
     elim c.in-Ok.is [
-      inl e ↦ below_at a.log.now a.key.now a.table.now a.count _ c.find.ensures _ e
-    | inr e ↦ below-before a.log.now a.key.now a.table.now a.count _ c.find.ensures _ e
+      | inl e ↦ below_at a.log.now a.key.now a.table.now a.count _ c.find.ensures _ e
+      | inr e ↦ below-before a.log.now a.key.now a.table.now a.count _ c.find.ensures _ e
     ]

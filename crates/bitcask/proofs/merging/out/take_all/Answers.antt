@@ -1,5 +1,5 @@
 use native.Mathlib.Omega.{arith}
-use Prim.Native.Nat.{◌+◌, ◌-◌, ◌*◌}
+use Prim.Native.Nat.{◌*◌}
 use mathlib.Core.Path.{◌∙◌}
 use Rattle.bitcask.specs.keydir.Slots.{slot_words, slots_of}
 use Rattle.bitcask.proofs.keydir.WordLaws.{within_is, cleared}

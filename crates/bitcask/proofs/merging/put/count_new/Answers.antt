@@ -1,4 +1,3 @@
-use Prim.Native.Nat.{◌+◌, ◌≤◌}
 use mathlib.Core.Path.{refl, ◌∙◌}
 use native.Mathlib.Omega.{arith}
 use Rattle.bitcask.specs.keydir.Slots.{slots_of}
@@ -16,11 +15,11 @@ loop-p-preserved c =
     let l = c.loop-p in
     let a = c.args in
     elim c.if-not-is_gone.branch [
-      then-not-is_gone w ↦ (
+      | then-not-is_gone w ↦ (
         omega (arith, w.n-is, l.invariant.0),
         w.n-is ∙ news-turn a.pend.now a.waiting l.p l.n c.loop-p-test.true l.invariant.1 c.slot_at.ensures (new_new c.slot_at.result c.is_gone.ensures w.if-not-is_gone.true),
       )
-    | else-not-is_gone w ↦ (
+      | else-not-is_gone w ↦ (
         omega (arith, w.n-is, l.invariant.0),
         w.n-is ∙ omega (arith, news-turn a.pend.now a.waiting l.p l.n c.loop-p-test.true l.invariant.1 c.slot_at.ensures (new_gone c.slot_at.result c.is_gone.ensures w.if-not-is_gone.false)),
       )
