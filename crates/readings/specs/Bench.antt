@@ -1,10 +1,9 @@
 -- Document 01, 'Bench readings', the rows P1 to P11: closed equations about the definitions of the three layers. Assumes nothing.
-use Rattle.std.specs.Prelude.{ℕ, ◌≡◌, true, false, List, [], ◌∷◌, ◌++◌, length, take, Err, Some}
+use Rattle.std.specs.Prelude.{ℕ, ◌≡◌, true, false, List, [], ◌∷◌, ◌++◌, length, take, Err, Some, None}
 use Rattle.keycode.specs.Limits.{max_key}
 use Rattle.keycode.specs.Strings.{escape, scanned, fault}
 use Rattle.keycode.specs.Prefix.{prefix_end}
 use Rattle.keycode.specs.declared.strings.Reason.TheVariants.{BadEscape}
-use Rattle.keycode.specs.declared.prefix.End.TheVariants.{Unbounded, Raised}
 use Rattle.keycode.specs.key.Keys.{encode, version}
 use Rattle.bitcask.specs.entry.Reading.{entry_at}
 use Rattle.bitcask.specs.declared.entry.read.Lengths.TheVariants.{Del}
@@ -33,9 +32,9 @@ pub record Bench : Type 0 where
   -- decoding 00 01 fails: at the byte after the 00
   pub p3 : scanned max_key 0 (0x00 ∷ 0x01 ∷ []) ≡ Err (fault BadEscape 1)
   -- prefix 61 ff: the end is none of its bytes and 62, excluded
-  pub p4 : prefix_end (0x61 ∷ 0xff ∷ []) ≡ Raised 0 0x62
+  pub p4 : prefix_end (0x61 ∷ 0xff ∷ []) ≡ Some (record { keep = 0; last = 0x62 })
   -- prefix ff ff: no upper end
-  pub p5 : prefix_end (0xff ∷ 0xff ∷ []) ≡ Unbounded
+  pub p5 : prefix_end (0xff ∷ 0xff ∷ []) ≡ None
   -- log 00000001 00000002 61 78 79: one key, used 11
   pub p6 : Recovers p6_log (record { key = 0x61 ∷ []; value = 0x78 ∷ 0x79 ∷ [] } ∷ []) 11
   -- its first 10 bytes: no key, used 0

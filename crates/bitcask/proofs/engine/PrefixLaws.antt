@@ -1,5 +1,6 @@
 -- The rows of the keys that begin with a prefix, as the code builds its end, and that under agreement they are those of recovery's rows.
 -- Assumes nothing.
+use Rattle.std.specs.Prelude.{Some, None, Option}
 use Prim.Native.Nat.{ℕ, suc, ◌+◌, ◌≤◌, ◌<◌}
 use mathlib.Core.Path.{◌≡◌, refl, sym, ap, ◌∙◌}
 use mathlib.Core.Bool.{Bool, true, false}
@@ -16,7 +17,6 @@ use Rattle.keycode.specs.Buffer.{put}
 use Rattle.keycode.specs.Order.{compare_bytes, by_order}
 use Rattle.keycode.specs.Prefix.{prefix_end, in_front, Under}
 use Rattle.keycode.specs.declared.prefix.End.{End}
-use Rattle.keycode.specs.declared.prefix.End.TheVariants as Ends
 use Rattle.keycode.proofs.Basics.{nope}
 use Rattle.keycode.proofs.BufferLaws.{set-put, put-put, put_front, length-put}
 use Rattle.keycode.proofs.NumberLaws.{Bytes, bytes_take, bytes_drop}
@@ -38,32 +38,32 @@ use Rattle.bitcask.proofs.engine.RangeLaws.{upto-within, range_agrees, span_rang
 
 -- ---- the end is no longer than the prefix
 
-end_in : (p : List ℕ) (n l : ℕ) → prefix_end p ≡ Ends.Raised n l → n < length p
+end_in : (p : List ℕ) (e : End) → prefix_end p ≡ Some e → e.keep < length p
 unfolding prefix_end in_front
-end_in [] n l e = nope (cc)
-end_in (x ∷ p) n l e = go (prefix_end p) e (λ m k f. end_in p m k f) refl
+end_in [] e q = nope (cc)
+end_in (x ∷ p) e q = go (prefix_end p) q (λ m f. end_in p m f) refl
   where
-    fresh : (b : Bool) → pick b (Ends.Raised 0 (suc x)) Ends.Unbounded ≡ Ends.Raised n l → n < suc (length p)
-    fresh true f = let z : 0 ≡ n = cc in omega arith
+    fresh : (b : Bool) → ◌≡◌ {A = Option End} (pick b (Some (record { keep = 0; last = suc x })) None) (Some e) → e.keep < suc (length p)
+    fresh true f = let z : ◌≡◌ {A = End} (record { keep = 0; last = suc x }) e = cc in let w : 0 ≡ e.keep = ap (λ (y : End). y.keep) z in omega arith
     fresh false f = nope (cc)
 
-    go : (u : End) → in_front x u ≡ Ends.Raised n l → ((m k : ℕ) → prefix_end p ≡ Ends.Raised m k → m < length p) → prefix_end p ≡ u → n < suc (length p)
-    go (Ends.Raised m k) f ih q = let z : suc m ≡ n = cc in omega (arith, ih m k q)
-    go Ends.Unbounded f ih q = fresh (ltb x 255) f
+    go : (u : Option End) → in_front x u ≡ Some e → ((m : End) → prefix_end p ≡ Some m → m.keep < length p) → prefix_end p ≡ u → e.keep < suc (length p)
+    go (Some m) f ih r = let z : ◌≡◌ {A = End} (record { keep = suc m.keep; last = m.last }) e = cc in let w : suc m.keep ≡ e.keep = ap (λ (y : End). y.keep) z in omega (arith, ih m r)
+    go None f ih r = fresh (ltb x 255) f
 
-module _ (p : List ℕ) {u : End} (says : u ≡ prefix_end p) where
-  pub end_within : (n l : ℕ) → u ≡ Ends.Raised n l → n < length p
-  end_within n l e = end_in p n l (sym says ∙ e)
+module _ (p : List ℕ) {u : Option End} (says : u ≡ prefix_end p) where
+  pub end_within : (e : End) → u ≡ Some e → e.keep < length p
+  end_within e q = end_in p e (sym says ∙ q)
 
   -- ---- the range by what the end is
 
   module _ (rs : List Row) {high : List ℕ} {r : Span} where
-    pub span_open : u ≡ Ends.Unbounded → Spans rs Included p Unbounded high r → Prefixes rs p r
+    pub span_open : u ≡ None → Spans rs Included p Unbounded high r → Prefixes rs p r
     span_open e w = rw (← says, e) (record { from = w.from; to = w.to })
 
-    pub span_raised : (n l : ℕ) → u ≡ Ends.Raised n l → high ≡ take n p ++ (l ∷ []) → Spans rs Included p Excluded high r
+    pub span_raised : (e : End) → u ≡ Some e → high ≡ take e.keep p ++ (e.last ∷ []) → Spans rs Included p Excluded high r
         → Prefixes rs p r
-    span_raised n l e q w = rw (← says, e) (rw q at w)
+    span_raised e q h w = rw (← says, q) (rw h at w)
 
 -- ---- its bytes in a buffer
 
@@ -113,13 +113,13 @@ low_least Greater n = refl
 least_low : (o : Ordering) → admits_low Included o ≡ true → o ≡ Less → ⊥
 least_low o e l = let z : ◌≡◌ {A = Bool} false true = rw l at e in nope (cc)
 
-high_under : (k p : List ℕ) (u : End) → Under k p u → admits_high (end_bound u) (compare_bytes k (end_bytes p u)) ≡ true
-high_under k p (Ends.Raised n l) h = rw h
-high_under k p Ends.Unbounded h = refl
+high_under : (k p : List ℕ) (u : Option End) → Under k p u → admits_high (end_bound u) (compare_bytes k (end_bytes p u)) ≡ true
+high_under k p (Some e) h = rw h
+high_under k p None h = refl
 
-under_high : (k p : List ℕ) (u : End) → admits_high (end_bound u) (compare_bytes k (end_bytes p u)) ≡ true → Under k p u
-under_high k p Ends.Unbounded e = tt
-under_high k p (Ends.Raised n l) e = go (compare_bytes k (take n p ++ (l ∷ []))) e
+under_high : (k p : List ℕ) (u : Option End) → admits_high (end_bound u) (compare_bytes k (end_bytes p u)) ≡ true → Under k p u
+under_high k p None q = tt
+under_high k p (Some e) q = go (compare_bytes k (take e.keep p ++ (e.last ∷ []))) q
   where
     go : (o : Ordering) → by_order o true false false ≡ true → o ≡ Less
     go Less f = refl

@@ -1,10 +1,9 @@
 -- The rows whose keys begin with a prefix: from the prefix to its end. Assumes nothing.
-use Rattle.std.specs.Prelude.{ℕ, ◌+◌, ◌*◌, Bool, true, false, List, [], ◌∷◌, ◌++◌, eqb, take}
+use Rattle.std.specs.Prelude.{ℕ, ◌+◌, ◌*◌, Bool, true, false, List, [], ◌∷◌, ◌++◌, eqb, take, Option, Some, None}
 use Rattle.keycode.specs.Tests.{pick}
 use Rattle.keycode.specs.Limits.{max_key}
 use Rattle.keycode.specs.Prefix.{prefix_end}
 use Rattle.keycode.specs.declared.prefix.End.{End}
-use Rattle.keycode.specs.declared.prefix.End.TheVariants as Ends
 use Rattle.bitcask.specs.declared.answers.Bound.{Bound}
 use Rattle.bitcask.specs.declared.answers.Bound.TheVariants.{Included, Excluded, Unbounded}
 use Rattle.bitcask.specs.declared.engine.span.Span.{Span}
@@ -22,13 +21,13 @@ begins (x ∷ p) [] = false
 begins (x ∷ p) (y ∷ key) = pick (eqb y x) (begins p key) false
 
 -- the upper bound of the keys that begin with a prefix, by the prefix's end
-abbrev pub end_bound : End → Bound
-end_bound (Ends.Raised n l) = Excluded
-end_bound Ends.Unbounded = Unbounded
+abbrev pub end_bound : Option End → Bound
+end_bound (Some e) = Excluded
+end_bound None = Unbounded
 
-abbrev pub end_bytes : List ℕ → End → List ℕ
-end_bytes p (Ends.Raised n l) = take n p ++ (l ∷ [])
-end_bytes p Ends.Unbounded = []
+abbrev pub end_bytes : List ℕ → Option End → List ℕ
+end_bytes p (Some e) = take e.keep p ++ (e.last ∷ [])
+end_bytes p None = []
 
 -- r is where the rows of a prefix start and end
 abbrev pub Prefixes : List Row → List ℕ → Span → Type 0

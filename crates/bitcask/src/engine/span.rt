@@ -12,7 +12,7 @@ use crate::engine::spot::Spot;
 use crate::engine::view::View;
 use crate::entry::write::copy_into;
 use keycode::limits::KEY_BYTES;
-use keycode::{End, prefix_end};
+use keycode::prefix_end;
 
 // The rows from the first spot on, up to the second, which is not one of them. There are none where they meet.
 #[derive(Clone, Copy)]
@@ -38,11 +38,12 @@ impl View<'_> {
         ensures { Prefixes (shown self.now) prefix.now result }
     {
         match prefix_end(prefix) {
-            End::Unbounded => self.range(Bound::Included, prefix, Bound::Unbounded, prefix),
-            End::Raised { keep, last } => {
+            None => self.range(Bound::Included, prefix, Bound::Unbounded, prefix),
+            Some(end) => {
+                let keep = end.keep;
                 let mut bytes = [0u8; KEY_BYTES];
                 copy_into(&prefix[..keep], &mut bytes, 0);
-                bytes[keep] = last;
+                bytes[keep] = end.last;
                 let n = keep + 1;
                 self.range(Bound::Included, prefix, Bound::Excluded, &bytes[..n])
             }

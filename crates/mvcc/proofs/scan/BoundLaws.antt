@@ -7,7 +7,7 @@ use native.Mathlib.Omega.{arith}
 use lib.Dec.{leb}
 use lib.ListN.{length, take, set, replicate, length-take, length-set}
 use borrow.Author.Tests.{leb-true, not-true, not-false}
-use Rattle.std.specs.Prelude.{Result}
+use Rattle.std.specs.Prelude.{Result, Some, None, Option}
 use Rattle.bitcask.specs.declared.answers.KeyValue.{KeyValue}
 use Rattle.keycode.specs.declared.refusal.Refusal.{Refusal}
 use Rattle.keycode.specs.Tests.{pick}
@@ -15,7 +15,6 @@ use Rattle.keycode.specs.Limits.{max_key}
 use Rattle.keycode.specs.Order.{compare_bytes}
 use Rattle.keycode.specs.Prefix.{searched, prefix_end}
 use Rattle.keycode.specs.declared.prefix.End.{End}
-use Rattle.keycode.specs.declared.prefix.End.TheVariants as Ends
 use Rattle.keycode.specs.declared.code.Code.{Code}
 use Rattle.keycode.specs.code.Codes.{Codes, key_bytes}
 use Rattle.bitcask.proofs.recovery.AgreeLaws.{both}
@@ -113,14 +112,14 @@ module _ (h : Handle) (log : List ℕ) (rs : List Row) (given : Bool) (last : Li
 
 -- ---- the end of a prefix
 
-module _ (p : List ℕ) {u : End} (says : u ≡ prefix_end p) (d : List ℕ) (whole : length d ≡ key_bytes) where
-  pub upper_open : u ≡ Ends.Unbounded → Uppers p (record { bound = Unbounded; code = record { len = 0; bytes = d } })
+module _ (p : List ℕ) {u : Option End} (says : u ≡ prefix_end p) (d : List ℕ) (whole : length d ≡ key_bytes) where
+  pub upper_open : u ≡ None → Uppers p (record { bound = Unbounded; code = record { len = 0; bytes = d } })
   upper_open e =
-      let q : Ends.Unbounded ≡ prefix_end p = sym e ∙ says in
+      let q : ◌≡◌ {A = Option End} None (prefix_end p) = sym e ∙ says in
       record { bound = ap end_bound q; code = record { whole = whole; within = omega arith; says = ap (end_bytes p) q } }
 
-  pub upper_raised : (n l : ℕ) → u ≡ Ends.Raised n l → n + 1 ≤ key_bytes → take (n + 1) (set d n l) ≡ take n p ++ (l ∷ [])
-      → Uppers p (record { bound = Excluded; code = record { len = n + 1; bytes = set d n l } })
-  upper_raised n l e h k =
-      let q : Ends.Raised n l ≡ prefix_end p = sym e ∙ says in
-      record { bound = ap end_bound q; code = record { whole = length-set d n l ∙ whole; within = h; says = k ∙ ap (end_bytes p) q } }
+  pub upper_raised : (e : End) → u ≡ Some e → e.keep + 1 ≤ key_bytes → take (e.keep + 1) (set d e.keep e.last) ≡ take e.keep p ++ (e.last ∷ [])
+      → Uppers p (record { bound = Excluded; code = record { len = e.keep + 1; bytes = set d e.keep e.last } })
+  upper_raised e o h k =
+      let q : ◌≡◌ {A = Option End} (Some e) (prefix_end p) = sym o ∙ says in
+      record { bound = ap end_bound q; code = record { whole = length-set d e.keep e.last ∙ whole; within = h; says = k ∙ ap (end_bytes p) q } }

@@ -15,7 +15,7 @@ use bitcask::entry::write::copy_into;
 use bitcask::{Bound, KeyValue, Used};
 use keycode::code::{Code, prefix_code};
 use keycode::limits::KEY_BYTES;
-use keycode::{End, Refusal, prefix_end};
+use keycode::{Refusal, prefix_end};
 
 // An upper bound of engine keys.
 #[derive(Clone, Copy)]
@@ -31,16 +31,17 @@ fn upper_of(prefix: &[u8]) -> Upper
 {
     let mut bytes = [0u8; KEY_BYTES];
     match prefix_end(prefix) {
-        End::Unbounded => {
+        None => {
             let code = Code { len: 0, bytes };
             Upper {
                 bound: Bound::Unbounded,
                 code,
             }
         }
-        End::Raised { keep, last } => {
+        Some(end) => {
+            let keep = end.keep;
             copy_into(&prefix[..keep], &mut bytes, 0);
-            bytes[keep] = last;
+            bytes[keep] = end.last;
             let len = keep + 1;
             let code = Code { len, bytes };
             Upper {

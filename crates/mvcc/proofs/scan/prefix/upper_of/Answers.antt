@@ -10,22 +10,22 @@ use Rattle.mvcc.proofs.scan.BoundLaws.{upper_open, upper_raised}
 use Rattle.mvcc.proofs.scan.prefix.upper_of.Goals as goal
 
 pub slice_bounds-copy_into-end : goal.slice_bounds-copy_into-end
-slice_bounds-copy_into-end c = let h = end_within c.args.prefix.now c.prefix_end.ensures _ _ c.in-Raised.is in sym (length-take-le _ _ (omega arith))
+slice_bounds-copy_into-end c = let h = end_within c.args.prefix.now c.prefix_end.ensures _ c.in-Some.is in sym (length-take-le _ _ (omega arith))
 
 pub copy_into-requires : goal.copy_into-requires
-copy_into-requires c = let h = end_within c.args.prefix.now c.prefix_end.ensures _ _ c.in-Raised.is in omega (arith, c.requires, length-take-le c.in-Raised.keep c.args.prefix.now (omega arith))
+copy_into-requires c = let h = end_within c.args.prefix.now c.prefix_end.ensures _ c.in-Some.is in omega (arith, c.requires, length-take-le c.in-Some.end.keep c.args.prefix.now (omega arith))
 
 pub bounds-bytes-keep : goal.bounds-bytes-keep
-bounds-bytes-keep c = omega (arith, c.requires, end_within c.args.prefix.now c.prefix_end.ensures _ _ c.in-Raised.is)
+bounds-bytes-keep c = omega (arith, c.requires, end_within c.args.prefix.now c.prefix_end.ensures _ c.in-Some.is)
 
 pub overflow_add-len : goal.overflow_add-len
-overflow_add-len c = omega (arith, c.requires, end_within c.args.prefix.now c.prefix_end.ensures _ _ c.in-Raised.is)
+overflow_add-len c = omega (arith, c.requires, end_within c.args.prefix.now c.prefix_end.ensures _ c.in-Some.is)
 
-pub returns-in-Unbounded : goal.returns-in-Unbounded
-returns-in-Unbounded c = let a = c.args in upper_open a.prefix.now c.prefix_end.ensures (replicate {A = ℕ} key_bytes 0) refl c.in-Unbounded.is
+pub returns-in-None : goal.returns-in-None
+returns-in-None c = let a = c.args in upper_open a.prefix.now c.prefix_end.ensures (replicate {A = ℕ} key_bytes 0) refl c.in-None.is
 
-pub returns-in-Raised : goal.returns-in-Raised
-returns-in-Raised c =
-    let a = c.args in let h = end_within c.args.prefix.now c.prefix_end.ensures _ _ c.in-Raised.is in
-    upper_raised a.prefix.now c.prefix_end.ensures c.copy_into.new.out c.copy_into.auto.out _ _ c.in-Raised.is (omega (arith, c.requires))
+pub returns-in-Some : goal.returns-in-Some
+returns-in-Some c =
+    let a = c.args in let h = end_within c.args.prefix.now c.prefix_end.ensures _ c.in-Some.is in
+    upper_raised a.prefix.now c.prefix_end.ensures c.copy_into.new.out c.copy_into.auto.out _ c.in-Some.is (omega (arith, c.requires))
     (raised_bytes _ a.prefix.now _ _ h c.requires c.copy_into.ensures.1)
