@@ -4,7 +4,7 @@ use Prim.Native.Nat.{ℕ, zero, suc, ◌+◌, ◌-◌, ◌*◌, ◌≤◌, ◌<�
 use mathlib.Core.Path.{◌≡◌, refl, sym, ap, ◌∙◌}
 use mathlib.Core.Bool.{Bool, true, false}
 use mathlib.Core.List.{List, [], ◌∷◌, ◌++◌, append_assoc}
-use native.Mathlib.Nat.{add_assoc, add-zero}
+use native.Mathlib.Nat.{add_assoc, add-zero, zero-add}
 use native.Mathlib.Decide.{dec_lt}
 use native.Mathlib.Omega.{arith}
 use native.Mathlib.Numerals.{add-one, towards_suc}
@@ -13,6 +13,7 @@ use lib.Seq.{drop-cons, drop-drop}
 use lib.Dec.{eqb, leb}
 use borrow.Author.Tests.{ne_eqb, eqb-true, le-leb, lt-leb, leb-true}
 use Rattle.std.specs.Prelude.{Ok, Err, Result, Option, Some, None, ℕ}
+use Rattle.std.specs.List.{sum_by, fold}
 use Rattle.keycode.specs.declared.refusal.Refusal.TheVariants.{BadStore}
 use Rattle.keycode.specs.declared.strings.Fault.{Fault}
 use Rattle.keycode.specs.declared.strings.Reason.TheVariants.{BadEscape, NoEnd, OverLimit}
@@ -61,12 +62,13 @@ pub body_done : (key : List ℕ) (i : ℕ) → length key ≤ i → escape_body 
 unfolding escape_body
 body_done key i h = rw (drop_of_length-le key h)
 
-pub count_turn : (key : List ℕ) (i n m : ℕ) → i < length key → n + length (escape_body (drop i key)) ≡ length (escape_body key) → m ≡ length (escape_byte (get_or key i 0))
-    → n + m + length (escape_body (drop (i + 1) key)) ≡ length (escape_body key)
-count_turn key i n m h e f = omega (arith, ap length (body_drop key i h) ∙ length-append (escape_byte (get_or key i 0)) (escape_body (drop (i + 1) key)))
-
-pub count-all : (key : List ℕ) (i n : ℕ) → length key ≤ i → n + length (escape_body (drop i key)) ≡ length (escape_body key) → n ≡ length (escape_body key)
-count-all key i n h e = omega (arith, ap length (body_done key i h))
+pub body_sum : (s : List ℕ) → sum_by (λ b. length (escape_byte b)) s ≡ length (escape_body s)
+unfolding escape_body
+body_sum s = simp zero-add at (from 0 s)
+  where
+    from : (n : ℕ) (s : List ℕ) → fold (λ a b. a + length (escape_byte b)) n s ≡ n + length (escape_body s)
+    from n [] = sym (add-zero n)
+    from n (x ∷ s) = from (n + length (escape_byte x)) s ∙ simp (length-append, add_assoc)
 
 pub escape-room : (key : List ℕ) (i : ℕ) {d out : List ℕ} {at o : ℕ} → Laying d at (escape_body key) out o (escape_body (drop i key)) → i < length key → o + length (escape_byte (get_or key i 0)) ≤ length out
 escape-room key i w h = lay-room w (escape_byte (get_or key i 0)) (escape_body (drop (i + 1) key)) (body_drop key i h)

@@ -9,11 +9,9 @@ pub fn put_number(v: u64, width: usize, out: &mut [u8], at: usize)
     ensures { out.new ≡ put out.old at (be width v) }
 {
     let mut rest = v;
-    let mut i = width;
-    while 0 < i {
-        i -= 1;
+    for i in (0..width).rev() {
         out[at + i] = (rest % 256) as u8;
-        rest = rest / 256;
+        rest /= 256;
     }
 }
 
@@ -23,17 +21,8 @@ pub fn get_number(s: &[u8]) -> u64
     ensures { result ≡ num s.now }
 {
     let mut n = 0;
-    let mut i = 0;
-    while i < s.len() {
-        n = n * 256 + wide(s[i]);
-        i += 1;
+    for &b in s {
+        n = n * 256 + u64::from(b);
     }
     n
-}
-
-// A byte as a number; its bound is what the sums above rest on.
-fn wide(b: u8) -> u64
-    ensures { (result ≡ b) × (result < 256) }
-{
-    b as u64
 }

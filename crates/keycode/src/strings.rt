@@ -39,13 +39,7 @@ pub(crate) fn escaped_len(key: &[u8]) -> usize
     requires { length key.now ≤ max_key }
     ensures { result ≡ length (escape_body key.now) }
 {
-    let mut n = 0;
-    let mut i = 0;
-    while i < key.len() {
-        n += escaped_byte_len(key[i]);
-        i += 1;
-    }
-    n
+    key.iter().map(|&b| escaped_byte_len(b)).sum()
 }
 
 // Writes a byte, escaped, and returns the index after it.
@@ -68,10 +62,8 @@ pub(crate) fn escape_body_into(key: &[u8], out: &mut [u8], at: usize) -> usize
     ensures { (result ≡ at + length (escape_body key.now)) × (out.new ≡ put out.old at (escape_body key.now)) }
 {
     let mut o = at;
-    let mut i = 0;
-    while i < key.len() {
-        o = put_escaped(key[i], out, o);
-        i += 1;
+    for &b in key {
+        o = put_escaped(b, out, o);
     }
     o
 }

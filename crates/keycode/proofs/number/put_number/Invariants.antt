@@ -4,6 +4,3 @@ use Rattle.keycode.proofs.number.put_number.Given as goal
 
 abbrev pub invariant-loop-i : goal.invariant-loop-i
 invariant-loop-i l = Digits l.v l.width l.at l.initial.out l.out l.rest l.i
-
-abbrev pub decreases-loop-i : goal.decreases-loop-i
-decreases-loop-i l = l.i
