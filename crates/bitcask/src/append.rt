@@ -63,16 +63,8 @@ pub fn append_set(
     let klen = key.len();
     let vlen = head.len() + body.len();
     let used = put_set(log, at, key, head, body);
-    let n = enter(
-        table,
-        count,
-        found,
-        Slot {
-            place: (at + 1) as u32,
-            klen: klen as u32,
-            vlen: vlen as u32,
-        },
-    );
+    let slot = Slot::of_entry(at, klen, vlen);
+    let n = enter(table, count, found, slot);
     Mark { used, count: n }
 }
 

@@ -28,15 +28,7 @@ fn move_slot(log: &[u8], table: &mut [u32], i: usize, target: &mut [u8], to: usi
     let klen = key.len();
     let vlen = value.len();
     let end = put_set(target, to, key, value, &value[..0]);
-    store(
-        table,
-        SLOT_WORDS * i,
-        Slot {
-            place: (to + 1) as u32,
-            klen: klen as u32,
-            vlen: vlen as u32,
-        },
-    );
+    store(table, SLOT_WORDS * i, Slot::of_entry(to, klen, vlen));
     end
 }
 

@@ -28,9 +28,9 @@ unfolding appended
 appended-is log t used n e log' t' u c p q b = λ j. record { log = p j; used = q j; table = b.words j; count = b.count j }
 
 pub set_becomes : (log t : List ℕ) (used n : ℕ) (key head body : List ℕ) (f : Result ℕ ℕ) (t' : List ℕ) (c : ℕ) → f ≡ place_of log key (slots_of n t)
-    → Becomes t n (entered t (record { place = used + 1; klen = length key; vlen = length head + length body }) f (slots_of n t)) t' c
+    → {s : Slot} → s ≡ record { place = used + 1; klen = length key; vlen = length head + length body } → Becomes t n (entered t s f (slots_of n t)) t' c
     → Becomes t n (slots_after log used t (set key (head ++ body)) (slots_of n t)) t' c
-set_becomes log t used n key head body f t' c e b = rw (← e, length-append head body) b
+set_becomes log t used n key head body f t' c e es b = rw (← e, length-append head body, ← es) b
 
 pub del_becomes : (log t : List ℕ) (used n : ℕ) (key : List ℕ) (f : Result ℕ ℕ) (t' : List ℕ) (c : ℕ) → f ≡ place_of log key (slots_of n t)
     → Becomes t n (cut_at f (slots_of n t)) t' c → Becomes t n (slots_after log used t (del key) (slots_of n t)) t' c

@@ -1,5 +1,5 @@
 -- Laws of the loops that tell agreement: a turn and an end of each, for any words. Assumes nothing.
-use Prim.Native.Nat.{ℕ, suc, ◌+◌, ◌-◌, ◌≤◌, ◌<◌}
+use Prim.Native.Nat.{ℕ, zero, suc, ◌+◌, ◌-◌, ◌≤◌, ◌<◌}
 use mathlib.Core.Path.{◌≡◌, refl, sym, ap, ◌∙◌}
 use mathlib.Core.Bool.{Bool, true, false}
 use mathlib.Core.List.{List, [], ◌∷◌}
@@ -7,9 +7,14 @@ use native.Mathlib.Numerals.{add-one}
 use native.Mathlib.Omega.{arith}
 use lib.ListN.{length, drop, get_or, drop_of_length-le}
 use lib.Seq.{drop-cons}
-use borrow.Author.Tests.{eq-eqb, ne_eqb, lt-ltb, le-ltb}
+use borrow.Author.Tests.{eq-eqb, eqb-true, ne_eqb, lt-ltb, le-ltb, ltb-true, ltb-false}
+use lib.Dec.{eqb, ltb}
+use Rattle.std.specs.List.{All}
+use Rattle.bitcask.proofs.recovery.AgreeLaws.{both}
 use Rattle.std.specs.Prelude.{Result, ℕ, Ok, Err, Option, Some, None}
 use Rattle.std.specs.declared.cmp.Ordering.{Ordering}
+use Rattle.std.specs.declared.cmp.Ordering.TheVariants.{Less, Equal, Greater}
+use Rattle.std.specs.Ordering.{is_lt, is_eq}
 use Rattle.keycode.specs.Order.{compare_bytes}
 use Rattle.keycode.proofs.Basics.{nope}
 use Rattle.bitcask.specs.declared.entry.read.Lengths.{Lengths}
@@ -29,21 +34,38 @@ use Rattle.bitcask.proofs.read.RankLaws.{found_at}
 
 -- ---- words that are 0
 
-module _ (t : List ℕ) (i : ℕ) where
-  pub zero_end : length t ≤ i → true ≡ zeroed (drop i t)
-  unfolding zeroed
-  zero_end h = rw (drop_of_length-le t {i = i} h)
+all_zero : (t : List ℕ) → All (λ (x : ℕ). x ≡ 0) t → zeroed t ≡ true
+unfolding zeroed
+all_zero [] a = refl
+all_zero (x ∷ t) a = rw (eq-eqb x 0 (a zero 0 (omega arith))) (all_zero t (λ k d h. a (suc k) d (omega arith)))
 
-  module _ (h : i < length t) where
-    pub zero_turn : get_or t i 0 ≡ 0 → zeroed (drop i t) ≡ zeroed (drop (i + 1) t)
-    unfolding zeroed
-    zero_turn e = rw (add-one, drop-cons t i 0 h, eq-eqb (get_or t i 0) 0 e)
+zero-all : (t : List ℕ) → zeroed t ≡ true → All (λ (x : ℕ). x ≡ 0) t
+unfolding zeroed
+zero-all [] e k d h = absurd (omega arith)
+zero-all (x ∷ t) e zero d h = eqb-true x 0 (both (eqb x 0) (zeroed t) e).0
+zero-all (x ∷ t) e (suc k) d h = zero-all t (both (eqb x 0) (zeroed t) e).1 k d (omega arith)
 
-    pub zero-stop : (get_or t i 0 ≡ 0 → ⊥) → false ≡ zeroed (drop i t)
-    unfolding zeroed
-    zero-stop n = rw (drop-cons t i 0 h, ne_eqb (get_or t i 0) 0 n)
+-- the test as the library says it
+pub zeroed-all : (t : List ℕ) (b : Bool) → (b ≡ true → All (λ (x : ℕ). x ≡ 0) t) × (All (λ (x : ℕ). x ≡ 0) t → b ≡ true) → b ≡ zeroed t
+zeroed-all t true p = sym (all_zero t (p.0 refl))
+zeroed-all t false p = go (zeroed t) refl
+  where
+    go : (z : Bool) → zeroed t ≡ z → false ≡ z
+    go true e = nope (cc (p.1 (zero-all t e)))
+    go false e = refl
 
 -- ---- keys that rise
+
+-- the library's words for an order that is Less, and for one that is Equal
+pub less-is : (o : Ordering) → is_lt o ≡ is_less o
+less-is Less = refl
+less-is Equal = refl
+less-is Greater = refl
+
+pub equal-is : (o : Ordering) → is_eq o ≡ is_equal o
+equal-is Less = refl
+equal-is Equal = refl
+equal-is Greater = refl
 
 pub pair_is : (log t : List ℕ) (n i : ℕ) {s x : Slot} {a b : List ℕ} {o : Ordering} → i + 1 < n → s ≡ slot_at t i → x ≡ slot_at t (i + 1) → a ≡ key_of log s → b ≡ key_of log x
     → o ≡ compare_bytes a b
@@ -73,6 +95,14 @@ module _ (log : List ℕ) (ss : List Slot) (i : ℕ) where
     rise_stop l e =
         let f : is_less (compare_bytes (key_of log (get_or ss i free_slot)) (key_of log (get_or ss (suc i) free_slot))) ≡ false = rw (add-one) at e in
         rw (drop-cons ss i free_slot h, drop-cons ss (suc i) free_slot (omega arith), f)
+
+  -- one slot or none is left
+  pub rise_done : length ss ≤ i + 1 → true ≡ risen log (drop i ss)
+  rise_done l = go (ltb i (length ss)) refl
+    where
+      go : (b : Bool) → ltb i (length ss) ≡ b → true ≡ risen log (drop i ss)
+      go true e = rise_last (ltb-true i (length ss) e) (omega arith)
+      go false e = rise_end (ltb-false i (length ss) e)
 
 -- ---- the entry at an offset
 

@@ -1,5 +1,6 @@
 // The slots of a table, read, put in, replaced and taken out. Any words may arrive: each contract is an equation for all of them.
 ghost use Rattle.std.specs.Prelude.{◌≡◌, [], ◌∷◌, ◌++◌, ◌+◌, ◌-◌, ◌*◌, ◌≤◌, ◌<◌, length, drop, replicate};
+ghost use Rattle.keycode.specs.Limits.{max_log};
 ghost use Rattle.keycode.specs.Buffer.{put};
 ghost use Rattle.bitcask.specs.keydir.Slots.{slot_words, slot_at, slots_of, words_of, insert_at, replace_at, remove_at, remove_span, key_of, value_of};
 ghost use Rattle.bitcask.specs.keydir.Place.{count_of};
@@ -23,6 +24,18 @@ impl Slot {
         klen: 0,
         vlen: 0,
     };
+
+    // The slot of an entry at an offset, by the lengths of its key and its value.
+    pub(crate) fn of_entry(at: usize, klen: usize, vlen: usize) -> Slot
+        requires { at + 8 + klen + vlen ≤ max_log }
+        ensures { result ≡ record { place = at + 1; klen = klen; vlen = vlen } }
+    {
+        Slot {
+            place: (at + 1) as u32,
+            klen: klen as u32,
+            vlen: vlen as u32,
+        }
+    }
 
     // Where the key begins in the log: 8 bytes behind the entry's offset.
     pub(crate) fn key_at(self) -> usize
