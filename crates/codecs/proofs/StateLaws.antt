@@ -3,12 +3,13 @@ use Prim.Native.Nat.{ℕ, ◌+◌, ◌≤◌, ◌<◌}
 use mathlib.Core.Path.{◌≡◌, refl, sym, ◌∙◌}
 use mathlib.Core.Bool.{Bool, true, false}
 use mathlib.Core.List.{List, [], ◌∷◌}
+use native.Mathlib.Decide.{dec_le}
 use native.Mathlib.Omega.{arith}
 use native.Mathlib.Numerals.{add-one}
 use lib.Dec.{leb}
 use lib.ListN.{length, drop, get_or, drop_of_length-le}
 use lib.Seq.{drop-cons}
-use borrow.Author.Tests.{le-leb, lt-leb}
+use borrow.Author.Tests.{lt-leb}
 use Rattle.keycode.specs.Tests.{pick}
 use Rattle.codecs.specs.declared.utf8.State.{State}
 use Rattle.codecs.specs.Utf8.{Span, span, tail, table, here, there, Awaited, await, never, within, begun, fed, fed_all, ended, well_formed}
@@ -42,26 +43,28 @@ module _ (x : ℕ) where
   pub begin_two : 194 ≤ x → x ≤ 223 → await (tail ∷ []) ≡ begun table x
   begin_two h g = sym (row_begun (span 194 223) (tail ∷ []) x (there here) table-rises h g)
 
-  pub begin_e0 : 223 < x → x ≤ 224 → await (span 160 191 ∷ tail ∷ []) ≡ begun table x
-  begin_e0 h g = sym (row_begun (span 224 224) (span 160 191 ∷ tail ∷ []) x (there (there here)) table-rises (omega arith) g)
+  pub begin_e0 : x ≡ 224 → await (span 160 191 ∷ tail ∷ []) ≡ begun table x
+  begin_e0 e = sym (row_begun (span 224 224) (span 160 191 ∷ tail ∷ []) x (there (there here)) table-rises (omega arith) (omega arith))
 
-  pub begin_three : 224 < x → x ≤ 236 → await (tail ∷ tail ∷ []) ≡ begun table x
-  begin_three h g = sym (row_begun (span 225 236) (tail ∷ tail ∷ []) x (there (there (there here))) table-rises (omega arith) g)
+  -- two rows: between E0 and ED, and behind ED
+  pub begin_three : 225 ≤ x → x ≤ 239 → (x ≡ 237 → ⊥) → await (tail ∷ tail ∷ []) ≡ begun table x
+  begin_three h g n = go (dec_le x 236)
+    where
+      go : Dec (x ≤ 236) → await (tail ∷ tail ∷ []) ≡ begun table x
+      go (yes l) = sym (row_begun (span 225 236) (tail ∷ tail ∷ []) x (there (there (there here))) table-rises (omega arith) l)
+      go (no l) = sym (row_begun (span 238 239) (tail ∷ tail ∷ []) x (there (there (there (there (there here))))) table-rises (omega (arith, l, n)) g)
 
-  pub begin_ed : 236 < x → x ≤ 237 → await (span 128 159 ∷ tail ∷ []) ≡ begun table x
-  begin_ed h g = sym (row_begun (span 237 237) (span 128 159 ∷ tail ∷ []) x (there (there (there (there here)))) table-rises (omega arith) g)
+  pub begin_ed : x ≡ 237 → await (span 128 159 ∷ tail ∷ []) ≡ begun table x
+  begin_ed e = sym (row_begun (span 237 237) (span 128 159 ∷ tail ∷ []) x (there (there (there (there here)))) table-rises (omega arith) (omega arith))
 
-  pub begin_high : 237 < x → x ≤ 239 → await (tail ∷ tail ∷ []) ≡ begun table x
-  begin_high h g = sym (row_begun (span 238 239) (tail ∷ tail ∷ []) x (there (there (there (there (there here))))) table-rises (omega arith) g)
-
-  pub begin_f0 : 239 < x → x ≤ 240 → await (span 144 191 ∷ tail ∷ tail ∷ []) ≡ begun table x
-  begin_f0 h g = sym (row_begun (span 240 240) (span 144 191 ∷ tail ∷ tail ∷ []) x (there (there (there (there (there (there here)))))) table-rises (omega arith) g)
+  pub begin_f0 : x ≡ 240 → await (span 144 191 ∷ tail ∷ tail ∷ []) ≡ begun table x
+  begin_f0 e = sym (row_begun (span 240 240) (span 144 191 ∷ tail ∷ tail ∷ []) x (there (there (there (there (there (there here)))))) table-rises (omega arith) (omega arith))
 
   pub begin_four : 240 < x → x ≤ 243 → await (tail ∷ tail ∷ tail ∷ []) ≡ begun table x
   begin_four h g = sym (row_begun (span 241 243) (tail ∷ tail ∷ tail ∷ []) x (there (there (there (there (there (there (there here))))))) table-rises (omega arith) g)
 
-  pub begin_f4 : 243 < x → x ≤ 244 → await (span 128 143 ∷ tail ∷ tail ∷ []) ≡ begun table x
-  begin_f4 h g = sym (row_begun (span 244 244) (span 128 143 ∷ tail ∷ tail ∷ []) x (there (there (there (there (there (there (there (there here)))))))) table-rises (omega arith) g)
+  pub begin_f4 : x ≡ 244 → await (span 128 143 ∷ tail ∷ tail ∷ []) ≡ begun table x
+  begin_f4 e = sym (row_begun (span 244 244) (span 128 143 ∷ tail ∷ tail ∷ []) x (there (there (there (there (there (there (there (there here)))))))) table-rises (omega arith) (omega arith))
 
   pub begin_over : 244 < x → never ≡ begun table x
   unfolding begun
@@ -77,17 +80,7 @@ module _ (x : ℕ) where
     lt-leb x 244 (omega arith),
   ))
 
--- ---- a byte inside a sequence
-
-module _ (x low high : ℕ) (a : Awaited) where
-  pub inside-over : high < x → never ≡ pick (within (span low high) x) a never
-  inside-over h = sym (rw (lt-leb x high h))
-
-  pub inside_under : x ≤ high → x < low → never ≡ pick (within (span low high) x) a never
-  inside_under g h = sym (rw (le-leb x high g, lt-leb low x h))
-
-  pub inside-fits : x ≤ high → low ≤ x → a ≡ pick (within (span low high) x) a never
-  inside-fits g h = sym (rw (le-leb x high g, le-leb low x h))
+-- ---- a byte more
 
 -- by the state that the code has matched
 pub feed_as : (s k : State) (b : ℕ) (a : Awaited) → s ≡ k → a ≡ fed (awaited_by k) b → a ≡ fed (awaited_by s) b

@@ -1,4 +1,4 @@
--- The numbers of the refusals of a row, and what reading a value from the front of bytes gives. Document 02, W5. Assumes nothing.
+-- The numbers of the refusals of a row, and what reading a value from the front of bytes gives. Assumes nothing.
 use Rattle.std.specs.Prelude.{ℕ, List}
 use Rattle.codecs.specs.declared.fields.Denial.{Denial}
 use Rattle.codecs.specs.declared.fields.Denial.TheVariants.{BadKey, BadRequest, BadFlag, BadText}

@@ -1,5 +1,5 @@
 -- The values of each kind of field, their bytes, what bytes they are read from, and their order; and the same for a row, over the list
--- of its kinds. Document 02, W5. Assumes nothing.
+-- of its kinds. Assumes nothing.
 use Rattle.std.specs.declared.cmp.Ordering.{Ordering}
 use Rattle.std.specs.declared.cmp.Ordering.TheVariants.{Less, Equal, Greater}
 use Rattle.std.specs.Prelude.{ℕ, zero, suc, ◌^◌, ◌<◌, ◌≡◌, Bool, true, false, List, [], ◌∷◌, ◌++◌, length, take, drop, eqb, leb, ℤ}

@@ -1,5 +1,5 @@
 // The kinds of a field, and why one is refused.
-#[derive(Clone, Copy)]
+#[derive(Clone, Copy, Debug, PartialEq, Eq)]
 pub enum Kind {
     Boolean,
     Unsigned,
@@ -10,7 +10,7 @@ pub enum Kind {
 }
 
 // Why a row is refused; `denial_number` of specs/Denials.antt gives each its number. 14 and 15 are numbers of the two calls on rows alone.
-#[derive(Clone, Copy)]
+#[derive(Clone, Copy, Debug, PartialEq, Eq)]
 pub enum Denial {
     BadKey,
     BadRequest,

@@ -1,4 +1,4 @@
-// The six kinds of a field of a typed key, each with its bytes and its order: what rows of such fields rest on. Document 02, W5.
+// The six kinds of a field of a typed key, each with its bytes and its order: what rows of such fields rest on.
 #![tactic(auto)]
 
 mod fields;

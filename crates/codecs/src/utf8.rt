@@ -5,7 +5,7 @@ ghost use Rattle.keycode.specs.Tests.{pick};
 ghost use Rattle.codecs.specs.Utf8.{span, table, within, begun, fed, ended, well_formed, never};
 ghost use Rattle.codecs.specs.States.{awaited_by};
 
-#[derive(Clone, Copy)]
+#[derive(Clone, Copy, Debug, PartialEq, Eq)]
 pub enum State {
     // between two sequences
     Start,
@@ -29,37 +29,16 @@ pub enum State {
 fn begin(b: u8) -> State
     ensures { awaited_by result ≡ begun table b }
 {
-    if b <= 127 {
-        return State::Start;
-    }
-    if b < 194 {
-        return State::Lost;
-    }
-    if b <= 223 {
-        return State::One;
-    }
-    if b <= 224 {
-        return State::AfterE0;
-    }
-    if b <= 236 {
-        return State::Two;
-    }
-    if b <= 237 {
-        return State::AfterEd;
-    }
-    if b <= 239 {
-        return State::Two;
-    }
-    if b <= 240 {
-        return State::AfterF0;
-    }
-    if b <= 243 {
-        return State::Three;
-    }
-    if b <= 244 {
-        State::AfterF4
-    } else {
-        State::Lost
+    match b {
+        0..=0x7f => State::Start,
+        0xc2..=0xdf => State::One,
+        0xe0 => State::AfterE0,
+        0xe1..=0xec | 0xee..=0xef => State::Two,
+        0xed => State::AfterEd,
+        0xf0 => State::AfterF0,
+        0xf1..=0xf3 => State::Three,
+        0xf4 => State::AfterF4,
+        _ => State::Lost,
     }
 }
 
@@ -67,10 +46,11 @@ fn begin(b: u8) -> State
 fn inside(b: u8, low: u8, high: u8, then: State) -> State
     ensures { awaited_by result ≡ pick (within (span low high) b) (awaited_by then) never }
 {
-    if high < b {
-        return State::Lost;
+    if (low..=high).contains(&b) {
+        then
+    } else {
+        State::Lost
     }
-    if b < low { State::Lost } else { then }
 }
 
 // The state after one byte more.
@@ -79,13 +59,13 @@ pub fn feed(state: State, b: u8) -> State
 {
     match state {
         State::Start => begin(b),
-        State::One => inside(b, 128, 191, State::Start),
-        State::Two => inside(b, 128, 191, State::One),
-        State::Three => inside(b, 128, 191, State::Two),
-        State::AfterE0 => inside(b, 160, 191, State::One),
-        State::AfterEd => inside(b, 128, 159, State::One),
-        State::AfterF0 => inside(b, 144, 191, State::Two),
-        State::AfterF4 => inside(b, 128, 143, State::Two),
+        State::One => inside(b, 0x80, 0xbf, State::Start),
+        State::Two => inside(b, 0x80, 0xbf, State::One),
+        State::Three => inside(b, 0x80, 0xbf, State::Two),
+        State::AfterE0 => inside(b, 0xa0, 0xbf, State::One),
+        State::AfterEd => inside(b, 0x80, 0x9f, State::One),
+        State::AfterF0 => inside(b, 0x90, 0xbf, State::Two),
+        State::AfterF4 => inside(b, 0x80, 0x8f, State::Two),
         State::Lost => State::Lost,
     }
 }
@@ -94,17 +74,7 @@ pub fn feed(state: State, b: u8) -> State
 pub fn closed(state: State) -> bool
     ensures { result ≡ ended (awaited_by state) }
 {
-    match state {
-        State::Start => true,
-        State::One => false,
-        State::Two => false,
-        State::Three => false,
-        State::AfterE0 => false,
-        State::AfterEd => false,
-        State::AfterF0 => false,
-        State::AfterF4 => false,
-        State::Lost => false,
-    }
+    state == State::Start
 }
 
 // A string is well-formed UTF-8.
@@ -112,10 +82,8 @@ pub fn is_utf8(s: &[u8]) -> bool
     ensures { result ≡ well_formed s.now }
 {
     let mut state = State::Start;
-    let mut i = 0;
-    while i < s.len() {
-        state = feed(state, s[i]);
-        i += 1;
+    for &b in s {
+        state = feed(state, b);
     }
     closed(state)
 }

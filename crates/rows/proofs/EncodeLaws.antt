@@ -2,16 +2,19 @@
 use Prim.Native.Nat.{ℕ, ◌+◌, ◌-◌, ◌^◌, ◌≤◌, ◌<◌}
 use mathlib.Core.Path.{◌≡◌, refl, sym, ap, subst, ◌∙◌}
 use mathlib.Core.Bool.{Bool, true, false}
+use mathlib.Core.Logic.{◌⊎◌, inl, inr}
 use mathlib.Core.List.{List, [], ◌∷◌, ◌++◌}
 use native.Mathlib.Omega.{arith}
-use lib.ListN.{length, drop, get_or, set, length-append}
+use native.Mathlib.Numerals.{add-one}
+use lib.ListN.{length, drop, get_or, set, length-append, drop_of_length-le}
+use lib.Seq.{drop-cons}
 use lib.Dec.{leb}
 use lib.IntN.{ℤ, pos, negsuc}
 use mir.Syntax.{w64}
-use mir.Val.{SFits, to_z, of_z}
+use mir.Val.{SFits, to_z, of_z, bool_byte}
 use mir.ValLaws.{to_z-of_z}
 use borrow.Author.Tests.{le-leb, lt-leb, leb-true, leb-false}
-use Rattle.std.specs.Prelude.{Option, ℕ, Some, None}
+use Rattle.std.specs.Prelude.{Option, ℕ, Some, None, SomeIff}
 use Rattle.keycode.specs.Tests.{pick}
 use Rattle.keycode.specs.Number.{be}
 use Rattle.keycode.specs.Buffer.{put}
@@ -19,16 +22,14 @@ use Rattle.keycode.specs.Strings.{escape_byte, escape_body, escape}
 use Rattle.keycode.specs.declared.parts.Part.{Part}
 use Rattle.rows.specs.declared.fields.Field.{Field}
 use Rattle.rows.specs.declared.fields.Field.TheVariants.{Flag, U64, I64, F64, Bytes, Text}
-use Rattle.rows.specs.declared.fields.Row.{Row}
 use Rattle.codecs.specs.Signs.{Small, biased, flipped}
 use Rattle.codecs.specs.Kinds.{flag_bytes}
-use Rattle.rows.specs.Promises.{part_of, fields_of, field_bytes, row_bytes, blank}
+use Rattle.rows.specs.Promises.{part_of, field_bytes, row_bytes, blank}
 use Rattle.rows.specs.Inner.{room_of, InWord, InWords, PutField}
 use Rattle.keycode.proofs.Basics.{nope}
 use Rattle.keycode.proofs.BufferLaws.{Laying, lay-front, lay-more, lay_end, lay-room, set-put}
 use Rattle.keycode.proofs.NumberLaws.{length-be}
 use Rattle.keycode.proofs.StringLaws.{body_drop, body_done, escape-length}
-use Rattle.rows.proofs.CheckLaws.{first_cons, first-none}
 
 -- ---- the room that is left
 
@@ -55,12 +56,41 @@ room-more m n left h = go (leb n (left - m)) refl
 pub room-over : (m n left : ℕ) → left < m → None ≡ room_of (m + n) left
 room-over m n left h = room-short (m + n) left (omega arith)
 
+-- what a call gives that takes n of `left` where there are so many
+pub room_checked : (n left : ℕ) (r : Option ℕ) → SomeIff r (n ≤ left) (left - n) → r ≡ room_of n left
+room_checked n left None h = room-short n left (omega (arith, h))
+room_checked n left (Some m) h = ap Some h.1 ∙ room_left n left h.0
+
+pub room_says : (n left m : ℕ) → room_of n left ≡ Some m → (n ≤ left) × (m ≡ left - n)
+unfolding room_of
+room_says n left m = go (leb n left) refl
+  where
+    go : (t : Bool) → leb n left ≡ t → pick t (Some (left - n)) None ≡ Some m → (n ≤ left) × (m ≡ left - n)
+    go true e p = (leb-true n left e, cc)
+    go false e p = nope (cc)
+
+pub room-none : (n left : ℕ) → room_of n left ≡ None → left < n
+unfolding room_of
+room-none n left = go (leb n left) refl
+  where
+    go : (t : Bool) → leb n left ≡ t → pick t (Some (left - n)) None ≡ None → left < n
+    go true e p = nope (cc)
+    go false e p = leb-false n left e
+
+-- n bytes taken of what is left, where `rest` more are to come
+module _ (all room left n rest : ℕ) (w : room_of all room ≡ room_of (n + rest) left) (r : Option ℕ) (got : r ≡ room_of n left) where
+  pub room_on : (m : ℕ) → r ≡ Some m → room_of all room ≡ room_of rest m
+  room_on m e = let q = room_says n left m (sym got ∙ e) in w ∙ room-more n rest left q.0 ∙ ap (room_of rest) (sym q.1)
+
+  pub room_out : r ≡ None → None ≡ room_of all room
+  room_out e = room-over n rest left (room-none n left (sym got ∙ e)) ∙ sym w
+
 -- the loop over a string's bytes
 module _ (s : List ℕ) (room left i : ℕ) (w : room_of (length (escape s)) room ≡ room_of (length (escape_body (drop i s)) + 2) left) where
-  pub string_done : length s ≤ i → (r : Option ℕ) → r ≡ room_of 2 left → r ≡ room_of (length (escape s)) room
-  string_done h r e = e ∙ sym (w ∙ ap (λ (n : ℕ). room_of n left) (ap (λ (t : List ℕ). length t + 2) (body_done s i h)))
+  pub string_done : length s ≤ i → (r : Option ℕ) → SomeIff r (2 ≤ left) (left - 2) → r ≡ room_of (length (escape s)) room
+  string_done h r e = room_checked 2 left r e ∙ sym (w ∙ ap (λ (n : ℕ). room_of n left) (ap (λ (t : List ℕ). length t + 2) (body_done s i h)))
 
-  module _ (h : i < length s) (n : ℕ) (is : n ≡ length (escape_byte (get_or s i 0))) where
+  module _ (h : i < length s) (n : ℕ) (is : n ≡ length (escape_byte (get_or s i 0))) (r : Option ℕ) (got : SomeIff r (n ≤ left) (left - n)) where
     string_at_lem : room_of (length (escape s)) room ≡ room_of (n + (length (escape_body (drop (i + 1) s)) + 2)) left
     string_at_lem =
         let l : length (escape_body (drop i s)) ≡ length (escape_byte (get_or s i 0)) + length (escape_body (drop (i + 1) s)) =
@@ -68,11 +98,11 @@ module _ (s : List ℕ) (room left i : ℕ) (w : room_of (length (escape s)) roo
         let e : length (escape_body (drop i s)) + 2 ≡ n + (length (escape_body (drop (i + 1) s)) + 2) = omega arith in
         w ∙ ap (λ (k : ℕ). room_of k left) e
 
-    pub string_on : n ≤ left → room_of (length (escape s)) room ≡ room_of (length (escape_body (drop (i + 1) s)) + 2) (left - n)
-    string_on g = string_at_lem ∙ room-more n (length (escape_body (drop (i + 1) s)) + 2) left g
+    pub string_on : (m : ℕ) → r ≡ Some m → room_of (length (escape s)) room ≡ room_of (length (escape_body (drop (i + 1) s)) + 2) m
+    string_on = room_on (length (escape s)) room left n (length (escape_body (drop (i + 1) s)) + 2) string_at_lem r (room_checked n left r got)
 
-    pub string_short : left < n → None ≡ room_of (length (escape s)) room
-    string_short g = room-over n (length (escape_body (drop (i + 1) s)) + 2) left g ∙ sym string_at_lem
+    pub string_short : r ≡ None → None ≡ room_of (length (escape s)) room
+    string_short = room_out (length (escape s)) room left n (length (escape_body (drop (i + 1) s)) + 2) string_at_lem r (room_checked n left r got)
 
 pub string_start : (s : List ℕ) (room : ℕ) → room_of (length (escape s)) room ≡ room_of (length (escape_body (drop 0 s)) + 2) room
 string_start s room = ap (λ (n : ℕ). room_of n room) (escape-length s)
@@ -88,13 +118,16 @@ module _ (d : List ℕ) (at : ℕ) (b : Bool) (room : at + length (flag_bytes b)
   pub flag-room : at < length d
   flag-room = let l = flag-length b in omega arith
 
-  pub flag_true : b ≡ true → (at + 1 ≡ at + length (flag_bytes b)) × (set d at 1 ≡ put d at (flag_bytes b))
+  pub flag_put : (n : ℕ) → n ≡ bool_byte b → (at + 1 ≡ at + length (flag_bytes b)) × (set d at n ≡ put d at (flag_bytes b))
   unfolding flag_bytes
-  flag_true e = rw e (refl, set-put d at 1 flag-room)
+  flag_put n e = (let l = flag-length b in omega arith, ap (set d at) e ∙ go b)
+    where
+      go : (b : Bool) → set d at (bool_byte b) ≡ put d at (flag_bytes b)
+      go true = set-put d at 1 flag-room
+      go false = set-put d at 0 flag-room
 
-  pub flag_false : b ≡ false → (at + 1 ≡ at + length (flag_bytes b)) × (set d at 0 ≡ put d at (flag_bytes b))
-  unfolding flag_bytes
-  flag_false e = rw e (refl, set-put d at 0 flag-room)
+pub word_put : (d out : List ℕ) (at n : ℕ) → out ≡ put d at (be 8 n) → (at + 8 ≡ at + length (be 8 n)) × (out ≡ put d at (be 8 n))
+word_put d out at n h = let l = length-be 8 n in (omega arith, h)
 
 -- a field's bytes, by the variant that the code has matched
 module _ (s : List ℕ) (f : Field) where
@@ -114,13 +147,21 @@ module _ (s : List ℕ) (f : Field) where
   unfolding field_bytes
   bytes_f64 w m e g = rw (e, g)
 
-  pub bytes-bytes : (p : Part) (x : List ℕ) → f ≡ Bytes p → x ≡ part_of s p → field_bytes s f ≡ escape x
+  pub bytes-string : (p : Part) (x : List ℕ) → (f ≡ Bytes p) ⊎ (f ≡ Text p) → x ≡ part_of s p → field_bytes s f ≡ escape x
   unfolding field_bytes
-  bytes-bytes p x e g = rw (e, g)
+  bytes-string p x (inl e) g = rw (e, g)
+  bytes-string p x (inr e) g = rw (e, g)
 
-  pub bytes-text : (p : Part) (x : List ℕ) → f ≡ Text p → x ≡ part_of s p → field_bytes s f ≡ escape x
-  unfolding field_bytes
-  bytes-text p x e g = rw (e, g)
+  pub flag_long : (b : Bool) → f ≡ Flag b → 1 ≡ length (field_bytes s f)
+  flag_long b e = sym (ap length (bytes-flag b e) ∙ flag-length b)
+
+  pub word_long : ((v : ℕ) × (f ≡ U64 v)) ⊎ (((v : ℤ) × (f ≡ I64 v)) ⊎ ((w : ℕ) × (f ≡ F64 w))) → 8 ≡ length (field_bytes s f)
+  word_long (inl e) = sym (ap length (bytes_u64 e.0 e.1) ∙ length-be 8 e.0)
+  word_long (inr (inl e)) = sym (ap length (bytes_i64 e.0 (biased e.0) e.1 refl) ∙ length-be 8 (biased e.0))
+  word_long (inr (inr e)) = sym (ap length (bytes_f64 e.0 (flipped e.0) e.1 refl) ∙ length-be 8 (flipped e.0))
+
+  pub field_left : (n left : ℕ) (r : Option ℕ) → n ≡ length (field_bytes s f) → SomeIff r (n ≤ left) (left - n) → r ≡ room_of (length (field_bytes s f)) left
+  field_left n left r e h = room_checked n left r h ∙ ap (λ (k : ℕ). room_of k left) e
 
 -- what is known of a field's bytes under another name of theirs
 module _ (e b : List ℕ) (is : b ≡ e) (at : ℕ) where
@@ -133,19 +174,8 @@ module _ (e b : List ℕ) (is : b ≡ e) (at : ℕ) where
   pub as_left : (left : ℕ) (r : Option ℕ) → r ≡ room_of (length e) left → r ≡ room_of (length b) left
   as_left left r h = rw is h
 
--- eight bytes
-module _ (b : List ℕ) (m : ℕ) (is : b ≡ be 8 m) where
-  pub eight_room : (at n : ℕ) → at + length b ≤ n → at + 8 ≤ n
-  eight_room at n h = let l = ap length is ∙ length-be 8 m in omega arith
-
-  pub eight_put : (at : ℕ) (d out : List ℕ) → out ≡ put d at (be 8 m) → (at + 8 ≡ at + length b) × (out ≡ put d at b)
-  eight_put at d out h = let l = ap length is ∙ length-be 8 m in (omega arith, h ∙ ap (put d at) (sym is))
-
-  pub eight_left : (left : ℕ) (r : Option ℕ) → r ≡ room_of 8 left → r ≡ room_of (length b) left
-  eight_left left r h = let l : 8 ≡ length b = sym (ap length is ∙ length-be 8 m) in h ∙ ap (λ (n : ℕ). room_of n left) l
-
-pub one_left : (b : List ℕ) (v : Bool) → b ≡ flag_bytes v → (left : ℕ) (r : Option ℕ) → r ≡ room_of 1 left → r ≡ room_of (length b) left
-one_left b v is left r h = let l : 1 ≡ length b = sym (ap length is ∙ flag-length v) in h ∙ ap (λ (n : ℕ). room_of n left) l
+pub eight_room : (b : List ℕ) (at n : ℕ) → 8 ≡ length b → at + length b ≤ n → at + 8 ≤ n
+eight_room b at n l h = omega arith
 
 -- a signed number that was handed to a call is the number
 pub handed : (v : ℤ) (m : ℕ) → SFits w64 v → m ≡ biased (to_z w64 (of_z w64 v)) → m ≡ biased v
@@ -169,86 +199,61 @@ module _ (f : Field) where
   pub word_f64 : (w : ℕ) → f ≡ F64 w → w < 2 ^ 64 → InWord f
   word_f64 w e h = rw e h
 
-  pub word_bytes : (p : Part) → f ≡ Bytes p → InWord f
-  word_bytes p e = rw e tt
-
-  pub word-text : (p : Part) → f ≡ Text p → InWord f
-  word-text p e = rw e tt
+  pub word-string : (p : Part) → (f ≡ Bytes p) ⊎ (f ≡ Text p) → InWord f
+  word-string p (inl e) = rw e tt
+  word-string p (inr e) = rw e tt
 
 pub field_put : (s : List ℕ) (f : Field) (d : List ℕ) (at r : ℕ) (out : List ℕ) → InWord f → (r ≡ at + length (field_bytes s f)) × (out ≡ put d at (field_bytes s f)) → PutField s f d at r out
 field_put s f d at r out w h = record { behind = h.0; bytes = h.1; word = w }
 
 -- ---- the loops over a row's bytes
 
-pub room_says : (n left m : ℕ) → room_of n left ≡ Some m → (n ≤ left) × (m ≡ left - n)
-unfolding room_of
-room_says n left m = go (leb n left) refl
-  where
-    go : (t : Bool) → leb n left ≡ t → pick t (Some (left - n)) None ≡ Some m → (n ≤ left) × (m ≡ left - n)
-    go true e p = (leb-true n left e, cc)
-    go false e p = nope (cc)
-
-pub room-none : (n left : ℕ) → room_of n left ≡ None → left < n
-unfolding room_of
-room-none n left = go (leb n left) refl
-  where
-    go : (t : Bool) → leb n left ≡ t → pick t (Some (left - n)) None ≡ None → left < n
-    go true e p = nope (cc)
-    go false e p = leb-false n left e
-
 -- the loop that writes: what stands in the buffer, and that the fields so far leave nothing to be shown of theirs
-pub record Putting (s : List ℕ) (row : Row) (d out : List ℕ) (o i : ℕ) : Type 0 where
-  pub laid : Laying d 0 (row_bytes s (fields_of row)) out o (row_bytes s (drop i (fields_of row)))
-  pub words : InWords (drop i (fields_of row)) → InWords (fields_of row)
+pub record Putting (s : List ℕ) (fs : List Field) (d out : List ℕ) (o i : ℕ) : Type 0 where
+  pub laid : Laying d 0 (row_bytes s fs) out o (row_bytes s (drop i fs))
+  pub words : InWords (drop i fs) → InWords fs
 
-row_none : (s : List ℕ) (row : Row) (i : ℕ) → row.len ≤ i → row_bytes s (drop i (fields_of row)) ≡ []
-unfolding row_bytes
-row_none s row i h = rw (first-none row.cells row.len i h)
-
-module _ (s : List ℕ) (row : Row) (i : ℕ) (few : row.len ≤ 8) (full : length row.cells ≡ 8) (h : i < row.len) (f : Field) (is : f ≡ (get_or row.cells i blank).field) where
-  row_cons : row_bytes s (drop i (fields_of row)) ≡ field_bytes s f ++ row_bytes s (drop (i + 1) (fields_of row))
+module _ (s : List ℕ) (fs : List Field) (i : ℕ) (h : i < length fs) where
+  row_cons : row_bytes s (drop i fs) ≡ field_bytes s (get_or fs i blank) ++ row_bytes s (drop (i + 1) fs)
   unfolding row_bytes field_bytes
-  row_cons = rw (first_cons row.cells row.len i blank h (omega arith), is)
+  row_cons = rw (add-one i, drop-cons fs i blank h)
 
-  row_long : length (row_bytes s (drop i (fields_of row))) ≡ length (field_bytes s f) + length (row_bytes s (drop (i + 1) (fields_of row)))
-  row_long = ap length row_cons ∙ length-append (field_bytes s f) (row_bytes s (drop (i + 1) (fields_of row)))
+  row_long : length (row_bytes s (drop i fs)) ≡ length (field_bytes s (get_or fs i blank)) + length (row_bytes s (drop (i + 1) fs))
+  row_long = ap length row_cons ∙ length-append (field_bytes s (get_or fs i blank)) (row_bytes s (drop (i + 1) fs))
 
-  module _ (room left : ℕ) (w : room_of (length (row_bytes s (fields_of row))) room ≡ room_of (length (row_bytes s (drop i (fields_of row)))) left)
-      (r : Option ℕ) (got : r ≡ room_of (length (field_bytes s f)) left) where
-    pub row_on : (m : ℕ) → r ≡ Some m → room_of (length (row_bytes s (fields_of row))) room ≡ room_of (length (row_bytes s (drop (i + 1) (fields_of row)))) m
-    row_on m e =
-        let q = room_says (length (field_bytes s f)) left m (sym got ∙ e) in
-        w
-        ∙ ap (λ (k : ℕ). room_of k left) row_long
-        ∙ room-more (length (field_bytes s f)) (length (row_bytes s (drop (i + 1) (fields_of row)))) left q.0
-        ∙ ap (room_of (length (row_bytes s (drop (i + 1) (fields_of row))))) (sym q.1)
+  module _ (room left : ℕ) (w : room_of (length (row_bytes s fs)) room ≡ room_of (length (row_bytes s (drop i fs))) left)
+      (r : Option ℕ) (got : r ≡ room_of (length (field_bytes s (get_or fs i blank))) left) where
+    pub row_on : (m : ℕ) → r ≡ Some m → room_of (length (row_bytes s fs)) room ≡ room_of (length (row_bytes s (drop (i + 1) fs))) m
+    row_on = room_on _ room left _ (length (row_bytes s (drop (i + 1) fs))) (w ∙ ap (λ (k : ℕ). room_of k left) row_long) r got
 
-    pub row_short : r ≡ None → None ≡ room_of (length (row_bytes s (fields_of row))) room
-    row_short e =
-        room-over (length (field_bytes s f)) (length (row_bytes s (drop (i + 1) (fields_of row)))) left (room-none (length (field_bytes s f)) left (sym got ∙ e))
-        ∙ sym (w ∙ ap (λ (k : ℕ). room_of k left) row_long)
+    pub row_short : r ≡ None → None ≡ room_of (length (row_bytes s fs)) room
+    row_short = room_out _ room left _ (length (row_bytes s (drop (i + 1) fs))) (w ∙ ap (λ (k : ℕ). room_of k left) row_long) r got
 
-  field_cons : drop i (fields_of row) ≡ record { field = f } ∷ drop (i + 1) (fields_of row)
-  field_cons = rw (first_cons row.cells row.len i blank h (omega arith), is)
+  field_cons : drop i fs ≡ get_or fs i blank ∷ drop (i + 1) fs
+  field_cons = rw (add-one i) (drop-cons fs i blank h)
 
   -- the loop that writes
-  module _ {d out : List ℕ} {o : ℕ} (w : Putting s row d out o i) where
-    pub put-room : o + length (field_bytes s f) ≤ length out
-    put-room = lay-room w.laid (field_bytes s f) (row_bytes s (drop (i + 1) (fields_of row))) row_cons
+  module _ {d out : List ℕ} {o : ℕ} (w : Putting s fs d out o i) where
+    pub put-room : o + length (field_bytes s (get_or fs i blank)) ≤ length out
+    put-room = lay-room w.laid (field_bytes s (get_or fs i blank)) (row_bytes s (drop (i + 1) fs)) row_cons
 
-    pub put_on : (out' : List ℕ) (o' : ℕ) → PutField s f out o o' out' → Putting s row d out' o' (i + 1)
+    pub put_on : (out' : List ℕ) (o' : ℕ) → PutField s (get_or fs i blank) out o o' out' → Putting s fs d out' o' (i + 1)
     put_on out' o' q =
         record {
-          laid = lay-more w.laid (field_bytes s f) (row_bytes s (drop (i + 1) (fields_of row))) out' o' row_cons q.behind q.bytes;
+          laid = lay-more w.laid (field_bytes s (get_or fs i blank)) (row_bytes s (drop (i + 1) fs)) out' o' row_cons q.behind q.bytes;
           words = λ u. w.words (subst InWords (sym field_cons) (q.word, u));
         }
 
-pub row_left : (s : List ℕ) (row : Row) (i room left : ℕ) → row.len ≤ i → room_of (length (row_bytes s (fields_of row))) room ≡ room_of (length (row_bytes s (drop i (fields_of row)))) left
-    → Some left ≡ room_of (length (row_bytes s (fields_of row))) room
-row_left s row i room left h w = let z : left ≡ left - 0 = omega arith in ap Some z ∙ room_left 0 left (omega arith) ∙ sym (w ∙ ap (λ (t : List ℕ). room_of (length t) left) (row_none s row i h))
+row_none : (s : List ℕ) (fs : List Field) (i : ℕ) → length fs ≤ i → row_bytes s (drop i fs) ≡ []
+unfolding row_bytes
+row_none s fs i h = rw (drop_of_length-le fs h)
 
-pub put_start : (s : List ℕ) (row : Row) (d : List ℕ) → length (row_bytes s (fields_of row)) ≤ length d → Putting s row d d 0 0
-put_start s row d h = record { laid = lay-front d (row_bytes s (fields_of row)) h; words = λ u. u }
+pub row_left : (s : List ℕ) (fs : List Field) (i room left : ℕ) → length fs ≤ i → room_of (length (row_bytes s fs)) room ≡ room_of (length (row_bytes s (drop i fs))) left
+    → Some left ≡ room_of (length (row_bytes s fs)) room
+row_left s fs i room left h w = let z : left ≡ left - 0 = omega arith in ap Some z ∙ room_left 0 left (omega arith) ∙ sym (w ∙ ap (λ (t : List ℕ). room_of (length t) left) (row_none s fs i h))
 
-pub put_end : (s : List ℕ) (row : Row) (i : ℕ) {d out : List ℕ} {o : ℕ} → row.len ≤ i → Putting s row d out o i → (out ≡ put d 0 (row_bytes s (fields_of row))) × InWords (fields_of row)
-put_end s row i h w = ((lay_end w.laid (row_none s row i h)).1, w.words (rw (first-none row.cells row.len i h) tt))
+pub put_start : (s : List ℕ) (fs : List Field) (d : List ℕ) → length (row_bytes s fs) ≤ length d → Putting s fs d d 0 0
+put_start s fs d h = record { laid = lay-front d (row_bytes s fs) h; words = λ u. u }
+
+pub put_end : (s : List ℕ) (fs : List Field) (i : ℕ) {d out : List ℕ} {o : ℕ} → length fs ≤ i → Putting s fs d out o i → (out ≡ put d 0 (row_bytes s fs)) × InWords fs
+put_end s fs i h w = ((lay_end w.laid (row_none s fs i h)).1, w.words (rw (drop_of_length-le fs h) tt))

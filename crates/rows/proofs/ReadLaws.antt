@@ -1,17 +1,18 @@
 -- What the code that reads one field knows at each of its ways out. Assumes nothing.
-use Prim.Native.Nat.{ℕ, zero, suc, ◌+◌, ◌-◌, ◌≤◌, ◌<◌}
+use Prim.Native.Nat.{ℕ, zero, suc, min, ◌+◌, ◌≤◌, ◌<◌}
 use mathlib.Core.Path.{◌≡◌, refl, sym, ap, ◌∙◌}
 use mathlib.Core.Bool.{Bool, true, false}
 use mathlib.Core.List.{List, [], ◌∷◌, ◌++◌}
 use native.Mathlib.Omega.{arith}
-use lib.ListN.{length, take, drop, get_or, length-append, length-drop, length-take, drop_of_length-le}
+use lib.ListN.{length, take, drop, get_or, length-append, length-take, drop_of_length-le}
 use lib.Seq.{drop-cons}
-use lib.Dec.{eqb}
+use lib.Dec.{ltb, eqb}
 use lib.IntN.{ℤ}
 use mir.Syntax.{w64}
 use mir.Val.{SFits, to_z, of_z}
 use mir.ValLaws.{to_z-of_z}
-use borrow.Author.Tests.{le-leb, lt-leb}
+use borrow.Author.Tests.{le-leb, lt-leb, ltb-true, ltb-false}
+use Rattle.std.specs.Prelude.{Result, Ok, Err, Option, Some, None}
 use Rattle.keycode.specs.Tests.{pick}
 use Rattle.keycode.specs.Number.{num}
 use Rattle.keycode.specs.Strings.{escape_byte, escape_body, step_at, fault}
@@ -21,17 +22,15 @@ use Rattle.keycode.specs.declared.strings.Step.{Step}
 use Rattle.keycode.specs.declared.strings.Step.TheVariants.{Byte, Closed, Bad}
 use Rattle.codecs.specs.declared.fields.Kind.TheVariants.{Boolean, Unsigned, Signed, Float}
 use Rattle.rows.specs.declared.fields.Field.TheVariants.{Flag, U64, I64, F64}
+use Rattle.codecs.specs.declared.fields.Denial.{Denial}
 use Rattle.codecs.specs.declared.fields.Denial.TheVariants.{BadKey, BadFlag}
-use Rattle.rows.specs.declared.decoding.Taken.TheVariants.{Read, Refused}
-use Rattle.rows.specs.declared.decoding.Strung.{Strung}
-use Rattle.rows.specs.declared.decoding.Strung.TheVariants.{Ended, Broken}
 use Rattle.codecs.specs.declared.utf8.State.{State}
 use Rattle.codecs.specs.Denials.{Got, got, bad, map_got}
 use Rattle.codecs.specs.Signs.{unbiased, unflipped, biased, flipped}
 use Rattle.codecs.specs.Utf8.{Awaited, await, fed, fed_all, ended, well_formed}
 use Rattle.codecs.specs.States.{awaited_by}
 use Rattle.codecs.specs.Kinds.{flag_bytes, read_flag, read_eight, push, read_bytes}
-use Rattle.rows.specs.Inner.{taken_as, strung_as}
+use Rattle.rows.specs.Inner.{value_of, taken_as, strung_as}
 use Rattle.keycode.proofs.Basics.{nope}
 use Rattle.keycode.proofs.NumberLaws.{length-be}
 use Rattle.keycode.proofs.StringLaws.{AtByte}
@@ -46,69 +45,91 @@ flag-other (suc zero) r n o = absurd (o refl)
 flag-other (suc (suc x)) r n o = refl
 
 module _ (key : List ℕ) (at : ℕ) where
-  pub flag-few : length key ≤ at → Refused BadKey ≡ taken_as Boolean at (read_flag (drop at key))
+  pub flag-few : false ≡ ltb at (length key) → Err BadKey ≡ taken_as Boolean at (read_flag (drop at key))
   unfolding taken_as read_flag
-  flag-few h = rw (drop_of_length-le key h)
+  flag-few t = rw (drop_of_length-le key (ltb-false at (length key) (sym t)))
 
-  module _ (h : at < length key) where
-    pub flag_no : get_or key at 0 ≡ 0 → Read (Flag false) (at + 1) ≡ taken_as Boolean at (read_flag (drop at key))
+  module _ (t : true ≡ ltb at (length key)) (x : ℕ) (is : x ≡ get_or key at x) where
+    here : drop at key ≡ x ∷ drop (suc at) key
+    here = drop-cons key at x (ltb-true at (length key) (sym t)) ∙ ap (λ (y : ℕ). y ∷ drop (suc at) key) (sym is)
+
+    pub flag_no : x ≡ 0 → Ok (Flag false, at + 1) ≡ taken_as Boolean at (read_flag (drop at key))
     unfolding taken_as read_flag flag_bytes
-    flag_no e = rw (drop-cons key at 0 h, e)
+    flag_no e = rw (here, e)
 
-    pub flag_yes : get_or key at 0 ≡ 1 → Read (Flag true) (at + 1) ≡ taken_as Boolean at (read_flag (drop at key))
+    pub flag_yes : x ≡ 1 → Ok (Flag true, at + 1) ≡ taken_as Boolean at (read_flag (drop at key))
     unfolding taken_as read_flag flag_bytes
-    flag_yes e = rw (drop-cons key at 0 h, e)
+    flag_yes e = rw (here, e)
 
-    pub flag_wrong : (get_or key at 0 ≡ 0 → ⊥) → (get_or key at 0 ≡ 1 → ⊥) → Refused BadFlag ≡ taken_as Boolean at (read_flag (drop at key))
+    pub flag_wrong : (x ≡ 0 → ⊥) → (x ≡ 1 → ⊥) → Err BadFlag ≡ taken_as Boolean at (read_flag (drop at key))
     unfolding taken_as
-    flag_wrong n o = rw (drop-cons key at 0 h, flag-other (get_or key at 0) (drop (suc at) key) n o)
+    flag_wrong n o = rw (here, flag-other x (drop (suc at) key) n o)
 
 -- ---- eight bytes
 
-pub eight_short : (p key : List ℕ) (at : ℕ) → p ≡ take 8 (drop at key) → length p ≤ 8
-eight_short p key at e = omega (arith, ap length e ∙ length-take 8 (drop at key))
+module _ (key : List ℕ) (at : ℕ) (p : List ℕ) (is : p ≡ take 8 (drop at key)) where
+  -- the part is cut where fewer are left
+  long : length p ≡ min 8 (length (drop at key))
+  long = ap length is ∙ length-take 8 (drop at key)
 
-module _ (key : List ℕ) (at : ℕ) where
-  module _ (h : length key - at < 8) where
-    eight_few : read_eight (drop at key) ≡ bad BadKey
-    unfolding read_eight
-    eight_few = let l : length (drop at key) < 8 = omega (arith, length-drop at key) in rw (lt-leb 8 (length (drop at key)) l)
+  pub word-few : length p < 8 → Err BadKey ≡ value_of (read_eight (drop at key))
+  unfolding value_of read_eight
+  word-few h = let l : length (drop at key) < 8 = omega (arith, long) in rw (lt-leb 8 (length (drop at key)) l)
 
-    pub unsigned-few : Refused BadKey ≡ taken_as Unsigned at (read_eight (drop at key))
+  pub word_read : 8 ≤ length p → (n : ℕ) → n ≡ num p → Ok n ≡ value_of (read_eight (drop at key))
+  unfolding value_of read_eight
+  word_read h n e = let l : 8 ≤ length (drop at key) = omega (arith, long) in rw (le-leb 8 (length (drop at key)) l, e, is)
+
+-- what the number that was read says
+value_bad : {A : Type 0} (g : Got A) (d : Denial) → Err d ≡ value_of g → g ≡ bad d
+unfolding value_of
+value_bad (got a r) d e = nope (cc)
+value_bad {A = A} (bad f) d e = let q : ◌≡◌ {A = Result A Denial} (Err d) (Err f) = e in ap bad (cc)
+
+value_got : {A : Type 0} (g : Got A) (a : A) → Ok a ≡ value_of g → (r : List ℕ) × (g ≡ got a r)
+unfolding value_of
+value_got {A = A} (got b r) a e = let q : ◌≡◌ {A = Result A Denial} (Ok a) (Ok b) = e in (r, ap (λ (x : A). got x r) (cc))
+value_got (bad f) a e = nope (cc)
+
+module _ (key : List ℕ) (at : ℕ) (w : Result ℕ Denial) (says : w ≡ value_of (read_eight (drop at key))) where
+  module _ (d : Denial) (e : w ≡ Err d) where
+    none_read : read_eight (drop at key) ≡ bad d
+    none_read = value_bad (read_eight (drop at key)) d (sym e ∙ says)
+
+    pub unsigned-few : Err d ≡ taken_as Unsigned at (read_eight (drop at key))
     unfolding taken_as
-    unsigned-few = rw eight_few
+    unsigned-few = rw none_read
 
-    pub signed-few : Refused BadKey ≡ taken_as Signed at (map_got unbiased (read_eight (drop at key)))
+    pub signed-few : Err d ≡ taken_as Signed at (map_got unbiased (read_eight (drop at key)))
     unfolding taken_as map_got
-    signed-few = rw eight_few
+    signed-few = rw none_read
 
-    pub float-few : Refused BadKey ≡ taken_as Float at (map_got unflipped (read_eight (drop at key)))
+    pub float-few : Err d ≡ taken_as Float at (map_got unflipped (read_eight (drop at key)))
     unfolding taken_as map_got
-    float-few = rw eight_few
+    float-few = rw none_read
 
-  module _ (h : 8 ≤ length key - at) (p : List ℕ) (n : ℕ) (is : p ≡ take 8 (drop at key)) (e : n ≡ num p) where
-    eight_read : read_eight (drop at key) ≡ got n (drop 8 (drop at key))
-    unfolding read_eight
-    eight_read = let l : 8 ≤ length (drop at key) = omega (arith, length-drop at key) in rw (le-leb 8 (length (drop at key)) l, e, is)
+  module _ (n : ℕ) (e : w ≡ Ok n) where
+    eight_read : (r : List ℕ) × (read_eight (drop at key) ≡ got n r)
+    eight_read = value_got (read_eight (drop at key)) n (sym e ∙ says)
 
-    pub unsigned_read : Read (U64 n) (at + 8) ≡ taken_as Unsigned at (read_eight (drop at key))
+    pub unsigned_read : Ok (U64 n, at + 8) ≡ taken_as Unsigned at (read_eight (drop at key))
     unfolding taken_as
-    unsigned_read = rw (eight_read, length-be 8 n)
+    unsigned_read = rw (eight_read.1, length-be 8 n)
 
-    pub signed_read : (z : ℤ) → SFits w64 z → z ≡ unbiased n → Read (I64 (to_z w64 (of_z w64 z))) (at + 8) ≡ taken_as Signed at (map_got unbiased (read_eight (drop at key)))
+    pub signed_read : (z : ℤ) → SFits w64 z → z ≡ unbiased n → Ok (I64 (to_z w64 (of_z w64 z)), at + 8) ≡ taken_as Signed at (map_got unbiased (read_eight (drop at key)))
     unfolding taken_as map_got
-    signed_read z f g = rw (to_z-of_z w64 z f, eight_read, length-be 8 (biased (unbiased n)), g)
+    signed_read z f g = rw (to_z-of_z w64 z f, eight_read.1, length-be 8 (biased (unbiased n)), g)
 
-    pub float_read : (w : ℕ) → w ≡ unflipped n → Read (F64 w) (at + 8) ≡ taken_as Float at (map_got unflipped (read_eight (drop at key)))
+    pub float_read : (v : ℕ) → v ≡ unflipped n → Ok (F64 v, at + 8) ≡ taken_as Float at (map_got unflipped (read_eight (drop at key)))
     unfolding taken_as map_got
-    float_read w g = rw (eight_read, length-be 8 (flipped (unflipped n)), g)
+    float_read v g = rw (eight_read.1, length-be 8 (flipped (unflipped n)), g)
 
 -- ---- a string
 
 -- read from index i on, where the bytes before have left `a` to come
-unfoldable pub strung_from : ℕ → Awaited → Got (List ℕ) → Strung
-strung_from i a (got s r) = Ended (i + length (escape_body s)) (ended (fed_all a s))
-strung_from i a (bad d) = Broken
+unfoldable pub strung_from : ℕ → Awaited → Got (List ℕ) → Option (ℕ × Bool)
+strung_from i a (got s r) = Some (i + length (escape_body s), ended (fed_all a s))
+strung_from i a (bad d) = None
 
 strung_start : (at : ℕ) (g : Got (List ℕ)) → strung_as at g ≡ strung_from at (await []) g
 unfolding strung_as strung_from well_formed
@@ -162,13 +183,13 @@ module _ {key : List ℕ} {at i : ℕ} {state : State} (w : Stringing key at i s
             ∙ strung_push i j b (awaited_by state) (awaited_by after) (read_bytes (drop j key)) a.next e;
       }
 
-  pub string_closed : (step : Step) → step ≡ step_at i (drop i key) → step ≡ Closed → (t : Bool) → t ≡ ended (awaited_by state) → Ended i t ≡ strung_as at (read_bytes (drop at key))
+  pub string_closed : (step : Step) → step ≡ step_at i (drop i key) → step ≡ Closed → (t : Bool) → t ≡ ended (awaited_by state) → Some (i, t) ≡ strung_as at (read_bytes (drop at key))
   unfolding strung_from fed_all escape_body
   string_closed step e f t g =
       let q = closed_reads i (drop i key) (sym e ∙ f) in
       let z : i ≡ i + 0 = omega arith in
-      sym (w.whole ∙ ap (strung_from i (awaited_by state)) q.1 ∙ ap (λ (k : ℕ). Ended k (ended (awaited_by state))) (sym z) ∙ ap (Ended i) (sym g))
+      sym (w.whole ∙ ap (strung_from i (awaited_by state)) q.1 ∙ ap (λ (k : ℕ). Some (k, ended (awaited_by state))) (sym z) ∙ ap (λ (u : Bool). Some (i, u)) (sym g))
 
-  pub string_bad : (step : Step) → step ≡ step_at i (drop i key) → (v : Fault) → step ≡ Bad v → Broken ≡ strung_as at (read_bytes (drop at key))
+  pub string_bad : (step : Step) → step ≡ step_at i (drop i key) → (v : Fault) → step ≡ Bad v → None ≡ strung_as at (read_bytes (drop at key))
   unfolding strung_from
   string_bad step e v f = sym (w.whole ∙ ap (strung_from i (awaited_by state)) (bad-reads i (drop i key) v (sym e ∙ f)))

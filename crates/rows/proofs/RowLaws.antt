@@ -15,14 +15,12 @@ use Rattle.keycode.specs.Order.{compare_bytes}
 use Rattle.keycode.specs.Strings.{escape_body, escape, unescaped}
 use Rattle.codecs.specs.declared.fields.Kind.{Kind}
 use Rattle.codecs.specs.declared.fields.Kind.TheVariants.{Boolean, Unsigned, Signed, Float, Binary, String}
-use Rattle.rows.specs.declared.fields.Cell.{Cell}
-use Rattle.rows.specs.declared.fields.Kinds.{Kinds}
+use Rattle.rows.specs.declared.fields.Field.{Field}
 use Rattle.rows.specs.declared.fields.Row.{Row}
-use Rattle.rows.specs.declared.fields.RowRead.{RowRead}
 use Rattle.codecs.specs.declared.fields.Denial.TheVariants.{BadRequest}
 use Rattle.codecs.specs.Denials.{Got, got, bad}
 use Rattle.codecs.specs.Kinds.{Val, enc, Vals, SoundRow, enc_row, dec_row, cmp_row, wholly}
-use Rattle.rows.specs.Promises.{kinds_of, vals_of, fields_of, fields_check, row_bytes, length_by, row_answer, row_number, RowWrites, placed, placed_row, blank, named, row_of, failed, read_as, read_answer}
+use Rattle.rows.specs.Promises.{kinds_of, vals_of, fields_check, row_bytes, length_by, row_answer, row_number, RowWrites, placed, placed_row, blank, row_of, read_as, read_answer}
 use Rattle.rows.specs.Spelling.{Spells, flag, unsigned, signed, float, binary, text, SpellsRow, none, more}
 use Rattle.keycode.proofs.Basics.{nope}
 use Rattle.keycode.proofs.NumberLaws.{Bytes as AllBytes}
@@ -31,37 +29,35 @@ use Rattle.codecs.proofs.KindLaws.{decode_encode, encode_decode, rows_sort}
 
 -- ---- what was encoded is decoded
 
-pub read_encoded : (kinds : Kinds) (v : Vals (named kinds)) → kinds.len ≤ 8 → SoundRow (named kinds) v
-    → read_answer kinds (enc_row (named kinds) v) ≡ record { check = (Ok tt); row = row_of (named kinds) v }
+pub read_encoded : (kinds : List Kind) (v : Vals kinds) → length kinds ≤ 8 → SoundRow kinds v → read_answer kinds (enc_row kinds v) ≡ Ok (row_of kinds v)
 unfolding read_answer read_as
-read_encoded kinds v few h = rw (le-leb kinds.len 8 few, decode_encode (named kinds) v h)
+read_encoded kinds v few h = rw (le-leb (length kinds) 8 few, decode_encode kinds v h)
 
 -- what an encoding that was answered with a length says
-done_says : (row : Row) (s : List ℕ) (room n : ℕ) → Ok n ≡ row_answer row s room → n ≡ length (row_bytes s (fields_of row))
+done_says : (fs : List Field) (s : List ℕ) (room n : ℕ) → Ok n ≡ row_answer fs s room → n ≡ length (row_bytes s fs)
 unfolding row_answer
-done_says row s room n = go (leb row.len 8) (fields_check s (fields_of row))
+done_says fs s room n = go (leb (length fs) 8) (fields_check s fs)
   where
     length-says : (m : ℕ) (t : Bool) → Ok n ≡ pick t (Ok m) (Err BadRequest) → n ≡ m
     length-says m true e = cc
     length-says m false e = nope (cc)
 
-    go : (t : Bool) (c : Result ⊤ Denial) → Ok n ≡ pick t (length_by c (length (row_bytes s (fields_of row))) room) (Err BadRequest) → n ≡ length (row_bytes s (fields_of row))
-    go true (Ok tt) e = length-says (length (row_bytes s (fields_of row))) (leb (length (row_bytes s (fields_of row))) room) e
+    go : (t : Bool) (c : Result ⊤ Denial) → Ok n ≡ pick t (length_by c (length (row_bytes s fs)) room) (Err BadRequest) → n ≡ length (row_bytes s fs)
+    go true (Ok tt) e = length-says (length (row_bytes s fs)) (leb (length (row_bytes s fs)) room) e
     go true (Err d) e = nope (cc)
     go false c e = nope (cc)
 
 -- a row that encode_row wrote is the row that decode_row answers, by its kinds
-pub round_trip : (kinds : Kinds) (row : Row) (s d out : List ℕ) (n : ℕ) → kinds.len ≤ 8 → named kinds ≡ kinds_of (fields_of row) → RowWrites row s d (Ok n) out
-    → read_answer kinds (take n out) ≡ record { check = (Ok tt); row = row_of (kinds_of (fields_of row)) (vals_of s (fields_of row)) }
+pub round_trip : (kinds : List Kind) (fs : List Field) (s d out : List ℕ) (n : ℕ) → length kinds ≤ 8 → kinds ≡ kinds_of fs → RowWrites fs s d (Ok n) out
+    → read_answer kinds (take n out) ≡ Ok (row_of (kinds_of fs) (vals_of s fs))
 unfolding read_answer
-round_trip kinds row s d out n few e w =
-    let q = done_says row s (length d) n w.answer in
-    let t : take n out ≡ row_bytes s (fields_of row) = ap (take n) w.buffer ∙ take_at (row_bytes s (fields_of row)) (drop (length (row_bytes s (fields_of row))) d) n (sym q) in
-    rw (le-leb kinds.len 8 few, t) (by (named kinds) e (w.sound refl))
+round_trip kinds fs s d out n few e w =
+    let q = done_says fs s (length d) n w.answer in
+    let t : take n out ≡ row_bytes s fs = ap (take n) w.buffer ∙ take_at (row_bytes s fs) (drop (length (row_bytes s fs)) d) n (sym q) in
+    rw (le-leb (length kinds) 8 few, t) (by kinds e (w.sound refl))
   where
-    by : (ks : List Kind) → ks ≡ kinds_of (fields_of row) → SoundRow (kinds_of (fields_of row)) (vals_of s (fields_of row))
-        → read_as ks (wholly (dec_row ks (row_bytes s (fields_of row)))) ≡ record { check = (Ok tt); row = row_of (kinds_of (fields_of row)) (vals_of s (fields_of row)) }
-    by ks f g = unfold read_as row_bytes in rw (f, decode_encode (kinds_of (fields_of row)) (vals_of s (fields_of row)) g)
+    by : (ks : List Kind) → ks ≡ kinds_of fs → SoundRow (kinds_of fs) (vals_of s fs) → read_as ks (wholly (dec_row ks (row_bytes s fs))) ≡ Ok (row_of (kinds_of fs) (vals_of s fs))
+    by ks f g = unfold read_as row_bytes in rw (f, decode_encode (kinds_of fs) (vals_of s fs) g)
 
 -- ---- the decoded row stands for the values
 
@@ -79,18 +75,18 @@ spells p t Float v = float v
 spells p t Binary v = binary _ v (part_of p v t)
 spells p t String v = text _ v (part_of p v t)
 
-spells_row : (p t : List ℕ) (ks : List Kind) (v : Vals ks) (cs : List Cell) → SpellsRow (p ++ (enc_row ks v ++ t)) ks v (placed_row (length p) ks v ++ cs)
-spells_row p t [] v cs = none cs
-spells_row p t (k ∷ ks) v cs =
+spells_row : (p t : List ℕ) (ks : List Kind) (v : Vals ks) (fs : List Field) → SpellsRow (p ++ (enc_row ks v ++ t)) ks v (placed_row (length p) ks v ++ fs)
+spells_row p t [] v fs = none fs
+spells_row p t (k ∷ ks) v fs =
     more k ks v.0 v.1 (placed (length p) k v.0) _
     (subst (λ (b : List ℕ). Spells (p ++ b) k v.0 (placed (length p) k v.0)) (sym (append_assoc (enc k v.0) (enc_row ks v.1) t)) (spells p (enc_row ks v.1 ++ t) k v.0))
     (rest (length-append p (enc k v.0)) (append_assoc p (enc k v.0) (enc_row ks v.1 ++ t)
-    ∙ ap (λ (b : List ℕ). p ++ b) (sym (append_assoc (enc k v.0) (enc_row ks v.1) t))) (spells_row (p ++ enc k v.0) t ks v.1 cs))
+    ∙ ap (λ (b : List ℕ). p ++ b) (sym (append_assoc (enc k v.0) (enc_row ks v.1) t))) (spells_row (p ++ enc k v.0) t ks v.1 fs))
   where
-    rest : {m n : ℕ} {a b : List ℕ} → m ≡ n → a ≡ b → SpellsRow a ks v.1 (placed_row m ks v.1 ++ cs) → SpellsRow b ks v.1 (placed_row n ks v.1 ++ cs)
+    rest : {m n : ℕ} {a b : List ℕ} → m ≡ n → a ≡ b → SpellsRow a ks v.1 (placed_row m ks v.1 ++ fs) → SpellsRow b ks v.1 (placed_row n ks v.1 ++ fs)
     rest {m} {n} {a} {b} e f q = rw (← e, ← f) q
 
--- the cells of a decoded row stand for its values
+-- the fields of a decoded row stand for its values
 spelled_row : (ks : List Kind) (v : Vals ks) (key : List ℕ) → enc_row ks v ≡ key → SpellsRow key ks v (row_of ks v).cells
 unfolding row_of
 spelled_row ks v key f =
@@ -99,47 +95,47 @@ spelled_row ks v key f =
 
 -- ---- what was decoded is encoded, and is what the decoded row stands for
 
-pub record Decoded (kinds : Kinds) (key : List ℕ) (r : RowRead) : Type 0 where
-  pub few : kinds.len ≤ 8
-  pub values : Vals (named kinds)
-  pub sound : SoundRow (named kinds) values
-  pub bytes : enc_row (named kinds) values ≡ key
-  pub row : r.row ≡ row_of (named kinds) values
-  pub spelled : SpellsRow key (named kinds) values r.row.cells
+pub record Decoded (kinds : List Kind) (key : List ℕ) (row : Row) : Type 0 where
+  pub few : length kinds ≤ 8
+  pub values : Vals kinds
+  pub sound : SoundRow kinds values
+  pub bytes : enc_row kinds values ≡ key
+  pub is : row ≡ row_of kinds values
+  pub spelled : SpellsRow key kinds values row.cells
 
-pub decoded : (kinds : Kinds) (key : List ℕ) → AllBytes key → (r : RowRead) → r ≡ read_answer kinds key → r.check ≡ (Ok tt) → Decoded kinds key r
+pub decoded : (kinds : List Kind) (key : List ℕ) → AllBytes key → (row : Row) → Ok row ≡ read_answer kinds key → Decoded kinds key row
 unfolding read_answer
-decoded kinds key w r e h = go (leb kinds.len 8) refl (wholly (dec_row (named kinds) key)) refl e
+decoded kinds key w row e = go (leb (length kinds) 8) refl (wholly (dec_row kinds key)) refl e
   where
-    go : (t : Bool) → leb kinds.len 8 ≡ t → (g : Got (Vals (named kinds))) → wholly (dec_row (named kinds) key) ≡ g → r ≡ pick t (read_as (named kinds) g) (failed BadRequest) → Decoded kinds key r
-    go false f g p q = let z : r.check ≡ (failed BadRequest).check = ap (λ (x : RowRead). x.check) q in nope (cc)
-    go true f (bad d) p q = unfold read_as in let z : r.check ≡ (failed d).check = ap (λ (x : RowRead). x.check) q in nope (cc)
+    go : (t : Bool) → leb (length kinds) 8 ≡ t → (g : Got (Vals kinds)) → wholly (dec_row kinds key) ≡ g → Ok row ≡ pick t (read_as kinds g) (Err BadRequest) → Decoded kinds key row
+    go false f g p q = nope (cc)
+    go true f (bad d) p q = unfold read_as in nope (cc)
     go true f (got v s) p q =
-        let b = encode_decode (named kinds) key w v s p in
-        let u : r.row ≡ row_of (named kinds) v = unfold read_as in ap (λ (x : RowRead). x.row) q in
+        let b = encode_decode kinds key w v s p in
+        let u : row ≡ row_of kinds v = unfold read_as in cc in
         record {
-          few = leb-true kinds.len 8 f;
+          few = leb-true (length kinds) 8 f;
           values = v;
           sound = b.1;
           bytes = b.0;
-          row = u;
-          spelled = subst (λ (x : Row). SpellsRow key (named kinds) v x.cells) (sym u) (spelled_row (named kinds) v key b.0);
+          is = u;
+          spelled = subst (λ (x : Row). SpellsRow key kinds v x.cells) (sym u) (spelled_row kinds v key b.0);
         }
 
 -- two keys that decode_row takes by the same kinds sort as the rows that they are
-pub decoded_sort : {kinds : Kinds} {key key' : List ℕ} {r r' : RowRead} (x : Decoded kinds key r) (y : Decoded kinds key' r')
-    → compare_bytes key key' ≡ cmp_row (named kinds) x.values y.values
+pub decoded_sort : {kinds : List Kind} {key key' : List ℕ} {r r' : Row} (x : Decoded kinds key r) (y : Decoded kinds key' r')
+    → compare_bytes key key' ≡ cmp_row kinds x.values y.values
 decoded_sort {kinds} {key} {key'} x y =
     ap (λ (b : List ℕ). compare_bytes b key') (sym x.bytes)
-    ∙ ap (compare_bytes (enc_row (named kinds) x.values)) (sym y.bytes)
-    ∙ rows_sort (named kinds) x.values y.values x.sound y.sound
+    ∙ ap (compare_bytes (enc_row kinds x.values)) (sym y.bytes)
+    ∙ rows_sort kinds x.values y.values x.sound y.sound
 
 -- ---- two results are one
 
-pub encode_unique : {row : Row} {s d : List ℕ} {r r' : Result ℕ Denial} {out out' : List ℕ} → RowWrites row s d r out → RowWrites row s d r' out' → (r ≡ r') × (out ≡ out')
-encode_unique {row} {s} {d} w w' =
+pub encode_unique : {fs : List Field} {s d : List ℕ} {r r' : Result ℕ Denial} {out out' : List ℕ} → RowWrites fs s d r out → RowWrites fs s d r' out' → (r ≡ r') × (out ≡ out')
+encode_unique {fs} {s} {d} w w' =
     let q = w.answer ∙ sym w'.answer in
-    (q, w.buffer ∙ ap (λ (x : Result ℕ Denial). if_done (row_number x) (row_bytes s (fields_of row) ++ drop (length (row_bytes s (fields_of row))) d) d) q ∙ sym w'.buffer)
+    (q, w.buffer ∙ ap (λ (x : Result ℕ Denial). if_done (row_number x) (row_bytes s fs ++ drop (length (row_bytes s fs)) d) d) q ∙ sym w'.buffer)
 
-pub decode_unique : (kinds : Kinds) (key : List ℕ) {r r' : RowRead} → r ≡ read_answer kinds key → r' ≡ read_answer kinds key → r ≡ r'
+pub decode_unique : (kinds : List Kind) (key : List ℕ) {r r' : Result Row Denial} → r ≡ read_answer kinds key → r' ≡ read_answer kinds key → r ≡ r'
 decode_unique kinds key e f = e ∙ sym f

@@ -1,4 +1,4 @@
--- What the two calls promise: the answer, and every byte that was lent. Document 02, W5. Assumes nothing.
+-- What the two calls promise: the answer, and every byte that was lent. Assumes nothing.
 use Rattle.std.specs.Prelude.{ℕ, ◌+◌, ◌-◌, ◌≡◌, Bool, false, List, [], ◌∷◌, ◌++◌, length, take, drop, replicate, leb, Result, Ok, Err, ⊤}
 use Rattle.keycode.specs.Tests.{pick, if_done}
 use Rattle.keycode.specs.Strings.{escape_body}
@@ -7,13 +7,9 @@ use Rattle.codecs.specs.declared.fields.Kind.{Kind}
 use Rattle.codecs.specs.declared.fields.Kind.TheVariants.{Boolean, Unsigned, Signed, Float, Binary, String}
 use Rattle.rows.specs.declared.fields.Field.{Field}
 use Rattle.rows.specs.declared.fields.Field.TheVariants.{Flag, U64, I64, F64, Bytes, Text}
-use Rattle.rows.specs.declared.fields.Cell.{Cell}
-use Rattle.rows.specs.declared.fields.KindCell.{KindCell}
 use Rattle.rows.specs.declared.fields.Row.{Row}
-use Rattle.rows.specs.declared.fields.Kinds.{Kinds}
 use Rattle.codecs.specs.declared.fields.Denial.{Denial}
 use Rattle.codecs.specs.declared.fields.Denial.TheVariants.{BadRequest, BadText}
-use Rattle.rows.specs.declared.fields.RowRead.{RowRead}
 use Rattle.codecs.specs.Denials.{denial_number, Got, got, bad}
 use Rattle.codecs.specs.Utf8.{well_formed}
 use Rattle.codecs.specs.Kinds.{Val, enc, Vals, SoundRow, enc_row, dec_row, wholly}
@@ -40,16 +36,16 @@ val_of s (F64 w) = w
 val_of s (Bytes p) = part_of s p
 val_of s (Text p) = part_of s p
 
-abbrev pub kinds_of : List Cell → List Kind
+abbrev pub kinds_of : List Field → List Kind
 kinds_of [] = []
-kinds_of (c ∷ cs) = kind_of c.field ∷ kinds_of cs
+kinds_of (f ∷ fs) = kind_of f ∷ kinds_of fs
 
-abbrev pub vals_of : (s : List ℕ) (cs : List Cell) → Vals (kinds_of cs)
+abbrev pub vals_of : (s : List ℕ) (fs : List Field) → Vals (kinds_of fs)
 vals_of s [] = tt
-vals_of s (c ∷ cs) = (val_of s c.field, vals_of s cs)
+vals_of s (f ∷ fs) = (val_of s f, vals_of s fs)
 
--- the row's fields
-abbrev pub fields_of : Row → List Cell
+-- the fields of a row
+abbrev pub fields_of : Row → List Field
 fields_of row = take row.len row.cells
 
 -- ---- encoding
@@ -58,8 +54,8 @@ fields_of row = take row.len row.cells
 unfoldable pub field_bytes : List ℕ → Field → List ℕ
 field_bytes s f = enc (kind_of f) (val_of s f)
 
-unfoldable pub row_bytes : List ℕ → List Cell → List ℕ
-row_bytes s cs = enc_row (kinds_of cs) (vals_of s cs)
+unfoldable pub row_bytes : List ℕ → List Field → List ℕ
+row_bytes s fs = enc_row (kinds_of fs) (vals_of s fs)
 
 -- a part lies within the texts
 unfoldable pub within : List ℕ → Part → Bool
@@ -85,9 +81,9 @@ abbrev pub first_fault : Result ⊤ Denial → Result ⊤ Denial → Result ⊤ 
 first_fault (Ok tt) c = c
 first_fault (Err d) c = Err d
 
-unfoldable pub fields_check : List ℕ → List Cell → Result ⊤ Denial
+unfoldable pub fields_check : List ℕ → List Field → Result ⊤ Denial
 fields_check s [] = (Ok tt)
-fields_check s (c ∷ cs) = first_fault (field_check s c.field) (fields_check s cs)
+fields_check s (f ∷ fs) = first_fault (field_check s f) (fields_check s fs)
 
 -- where no field is at fault, 13 where `n` bytes do not fit into a buffer of `room`
 abbrev pub length_by : Result ⊤ Denial → ℕ → ℕ → Result ℕ Denial
@@ -95,22 +91,20 @@ length_by (Ok tt) n room = pick (leb n room) (Ok n) (Err BadRequest)
 length_by (Err d) n room = Err d
 
 -- 13 over eight fields; then the first field at fault; then 13 where the buffer is too short
-unfoldable pub row_answer : Row → List ℕ → ℕ → Result ℕ Denial
-row_answer row s room =
-    pick (leb row.len 8)
-    (length_by (fields_check s (fields_of row)) (length (row_bytes s (fields_of row))) room)
-    (Err BadRequest)
+unfoldable pub row_answer : List Field → List ℕ → ℕ → Result ℕ Denial
+row_answer fs s room = pick (leb (length fs) 8) (length_by (fields_check s fs) (length (row_bytes s fs)) room) (Err BadRequest)
 
-abbrev pub row_number : Result ℕ Denial → ℕ
-row_number (Ok n) = 0
+-- the number of what either call answers
+abbrev pub row_number : {A : Type 0} → Result A Denial → ℕ
+row_number (Ok a) = 0
 row_number (Err d) = denial_number d
 
 -- with number 0 the row's bytes stand at the front of the buffer d and its other bytes stay, and the row is one that decoding gives back:
 -- its numbers have 64 bits, its strings are UTF-8; with every other number the buffer stays whole
-pub record RowWrites (row : Row) (s d : List ℕ) (r : Result ℕ Denial) (out : List ℕ) : Type 0 where
-  pub answer : r ≡ row_answer row s (length d)
-  pub buffer : out ≡ if_done (row_number r) (row_bytes s (fields_of row) ++ drop (length (row_bytes s (fields_of row))) d) d
-  pub sound : row_number r ≡ 0 → SoundRow (kinds_of (fields_of row)) (vals_of s (fields_of row))
+pub record RowWrites (fs : List Field) (s d : List ℕ) (r : Result ℕ Denial) (out : List ℕ) : Type 0 where
+  pub answer : r ≡ row_answer fs s (length d)
+  pub buffer : out ≡ if_done (row_number r) (row_bytes s fs ++ drop (length (row_bytes s fs)) d) d
+  pub sound : row_number r ≡ 0 → SoundRow (kinds_of fs) (vals_of s fs)
 
 -- ---- decoding
 
@@ -124,41 +118,22 @@ placed at Binary v = Bytes (record { at = at; len = length (escape_body v) })
 placed at String v = Text (record { at = at; len = length (escape_body v) })
 
 -- the fields of a row whose bytes start there
-abbrev pub placed_row : ℕ → (ks : List Kind) → Vals ks → List Cell
+abbrev pub placed_row : ℕ → (ks : List Kind) → Vals ks → List Field
 placed_row at [] v = []
-placed_row at (k ∷ ks) v = record { field = placed at k v.0 } ∷ placed_row (at + length (enc k v.0)) ks v.1
+placed_row at (k ∷ ks) v = placed at k v.0 ∷ placed_row (at + length (enc k v.0)) ks v.1
 
--- a cell that no field stands in
-abbrev pub blank : Cell
-blank = record { field = Flag false }
-
-abbrev pub kind_list : List KindCell → List Kind
-kind_list [] = []
-kind_list (c ∷ cs) = c.kind ∷ kind_list cs
-
--- the kinds that are named
-abbrev pub named : Kinds → List Kind
-named kinds = kind_list (take kinds.len kinds.cells)
+-- what stands in a cell that no field stands in
+abbrev pub blank : Field
+blank = Flag false
 
 -- the fields, and blanks behind them up to eight
 unfoldable pub row_of : (ks : List Kind) → Vals ks → Row
 row_of ks v = record { cells = placed_row 0 ks v ++ replicate (8 - length ks) blank; len = length ks }
 
--- what a refusal comes with
-abbrev pub no_row : Row
-no_row = record { cells = replicate 8 blank; len = 0 }
-
-abbrev pub failed : Denial → RowRead
-failed d = record { check = Err d; row = no_row }
-
-unfoldable pub read_as : (ks : List Kind) → Got (Vals ks) → RowRead
-read_as ks (got v r) = record { check = (Ok tt); row = row_of ks v }
-read_as ks (bad d) = failed d
+unfoldable pub read_as : (ks : List Kind) → Got (Vals ks) → Result Row Denial
+read_as ks (got v r) = Ok (row_of ks v)
+read_as ks (bad d) = Err d
 
 -- 13 over eight kinds; then the first field at fault; then 12 for bytes left over
-unfoldable pub read_answer : Kinds → List ℕ → RowRead
-read_answer kinds key = pick (leb kinds.len 8) (read_as (named kinds) (wholly (dec_row (named kinds) key))) (failed BadRequest)
-
-abbrev pub check_number : Result ⊤ Denial → ℕ
-check_number (Ok tt) = 0
-check_number (Err d) = denial_number d
+unfoldable pub read_answer : List Kind → List ℕ → Result Row Denial
+read_answer ks key = pick (leb (length ks) 8) (read_as ks (wholly (dec_row ks key))) (Err BadRequest)

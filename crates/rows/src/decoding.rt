@@ -1,11 +1,11 @@
 // Decoding a row: the fields of a key one after the other, by kinds that are named beforehand.
-ghost use Rattle.std.specs.Prelude.{◌≡◌, ◌+◌, ◌≤◌, ◌<◌, length, drop, get_or};
-ghost use Rattle.codecs.specs.declared.fields.Kind.TheVariants.{Boolean, Unsigned, Signed, Float, Binary, String};
-ghost use Rattle.codecs.specs.Kinds.{dec, read_bytes};
-ghost use Rattle.rows.specs.Promises.{failed, read_answer};
-ghost use Rattle.rows.specs.Inner.{taken_as, strung_as};
+ghost use Rattle.std.specs.Prelude.{◌≡◌, ◌≤◌, length, drop};
+ghost use Rattle.codecs.specs.declared.fields.Kind.TheVariants.{Boolean, Binary, String};
+ghost use Rattle.codecs.specs.Kinds.{dec, read_eight, read_bytes};
+ghost use Rattle.rows.specs.Promises.{read_answer};
+ghost use Rattle.rows.specs.Inner.{value_of, taken_as, strung_as};
 
-use crate::fields::{Cell, Field, Kinds, Row, RowRead};
+use crate::fields::{Field, Row};
 use codecs::signs::{unbias, unflip};
 use codecs::utf8::{State, closed, feed};
 use codecs::{Denial, Kind};
@@ -14,77 +14,31 @@ use keycode::number::get_number;
 use keycode::parts::clip;
 use keycode::strings::{Step, step_at};
 
-// A field and the index behind it, or why there is none.
-#[derive(Clone, Copy)]
-pub enum Taken {
-    Read(Field, usize),
-    Refused(Denial),
-}
-
-// The index of a string's closing 00 00, and whether the string is UTF-8.
-#[derive(Clone, Copy)]
-pub enum Strung {
-    Ended(usize, bool),
-    Broken,
-}
-
-// A row's kind at index i.
-fn kind_at(kinds: Kinds, i: usize) -> Kind
-    requires { i < 8 }
-    ensures { result ≡ (get_or kinds.cells i (record { kind = Boolean })).kind }
-{
-    let cell = kinds.cells[i];
-    cell.kind
-}
-
-fn read_flag(key: &[u8], at: usize) -> Taken
+// A boolean, and the index behind it.
+fn read_flag(key: &[u8], at: usize) -> Result<(Field, usize), Denial>
     ensures { result ≡ taken_as Boolean at (dec Boolean (drop at key.now)) }
 {
-    if key.len() <= at {
-        return Taken::Refused(Denial::BadKey);
+    match key.get(at) {
+        Some(0) => Ok((Field::Flag(false), at + 1)),
+        Some(1) => Ok((Field::Flag(true), at + 1)),
+        Some(_) => Err(Denial::BadFlag),
+        None => Err(Denial::BadKey),
     }
-    let b = key[at];
-    if b == 0 {
-        return Taken::Read(Field::Flag(false), at + 1);
-    }
-    if b == 1 {
-        return Taken::Read(Field::Flag(true), at + 1);
-    }
-    Taken::Refused(Denial::BadFlag)
 }
 
-fn read_unsigned(key: &[u8], at: usize) -> Taken
-    requires { at ≤ length key.now }
-    ensures { result ≡ taken_as Unsigned at (dec Unsigned (drop at key.now)) }
+// The number that eight bytes are.
+fn read_word(key: &[u8], at: usize) -> Result<u64, Denial>
+    ensures { result ≡ value_of (read_eight (drop at key.now)) }
 {
-    if key.len() - at < 8 {
-        return Taken::Refused(Denial::BadKey);
+    let bytes = clip(key, at, 8);
+    if bytes.len() < 8 {
+        return Err(Denial::BadKey);
     }
-    Taken::Read(Field::U64(get_number(clip(key, at, 8))), at + 8)
+    Ok(get_number(bytes))
 }
 
-fn read_signed(key: &[u8], at: usize) -> Taken
-    requires { at ≤ length key.now }
-    ensures { result ≡ taken_as Signed at (dec Signed (drop at key.now)) }
-{
-    if key.len() - at < 8 {
-        return Taken::Refused(Denial::BadKey);
-    }
-    Taken::Read(Field::I64(unbias(get_number(clip(key, at, 8)))), at + 8)
-}
-
-fn read_float(key: &[u8], at: usize) -> Taken
-    requires { at ≤ length key.now }
-    ensures { result ≡ taken_as Float at (dec Float (drop at key.now)) }
-{
-    if key.len() - at < 8 {
-        return Taken::Refused(Denial::BadKey);
-    }
-    Taken::Read(Field::F64(unflip(get_number(clip(key, at, 8)))), at + 8)
-}
-
-// Where a string ends, and whether it is UTF-8; a fault of its escapes comes first.
-fn string_at(key: &[u8], at: usize) -> Strung
+// The index of a string's closing 00 00, and whether the string is UTF-8; none where its escapes are at fault.
+fn string_at(key: &[u8], at: usize) -> Option<(usize, bool)>
     requires { at ≤ length key.now }
     ensures { result ≡ strung_as at (read_bytes (drop at key.now)) }
 {
@@ -96,121 +50,65 @@ fn string_at(key: &[u8], at: usize) -> Strung
                 state = feed(state, b);
                 i = j;
             }
-            Step::Closed => {
-                return Strung::Ended(i, closed(state));
-            }
-            Step::Bad(_) => {
-                return Strung::Broken;
-            }
+            Step::Closed => return Some((i, closed(state))),
+            Step::Bad(_) => return None,
         }
     }
 }
 
-fn read_binary(key: &[u8], at: usize) -> Taken
+// A byte string, and the index behind it.
+fn read_binary(key: &[u8], at: usize) -> Result<(Field, usize), Denial>
     requires { at ≤ length key.now }
     ensures { result ≡ taken_as Binary at (dec Binary (drop at key.now)) }
 {
-    match string_at(key, at) {
-        Strung::Ended(i, _) => Taken::Read(
-            Field::Bytes(Part {
-                at: at,
-                len: i - at,
-            }),
-            i + 2,
-        ),
-        Strung::Broken => Taken::Refused(Denial::BadKey),
-    }
+    let (end, _) = string_at(key, at).ok_or(Denial::BadKey)?;
+    Ok((Field::Bytes(Part { at, len: end - at }), end + 2))
 }
 
-fn read_string(key: &[u8], at: usize) -> Taken
+// A string, and the index behind it; a fault of its escapes comes before one of its UTF-8.
+fn read_string(key: &[u8], at: usize) -> Result<(Field, usize), Denial>
     requires { at ≤ length key.now }
     ensures { result ≡ taken_as String at (dec String (drop at key.now)) }
 {
-    match string_at(key, at) {
-        Strung::Ended(i, good) => {
-            if good {
-                return Taken::Read(
-                    Field::Text(Part {
-                        at: at,
-                        len: i - at,
-                    }),
-                    i + 2,
-                );
-            }
-            Taken::Refused(Denial::BadText)
-        }
-        Strung::Broken => Taken::Refused(Denial::BadKey),
+    let (end, good) = string_at(key, at).ok_or(Denial::BadKey)?;
+    if !good {
+        return Err(Denial::BadText);
     }
+    Ok((Field::Text(Part { at, len: end - at }), end + 2))
 }
 
-// The field of a kind that starts at index at.
-fn read_field(kind: Kind, key: &[u8], at: usize) -> Taken
+// The field of a kind that starts at index at, and the index behind it.
+fn read_field(kind: Kind, key: &[u8], at: usize) -> Result<(Field, usize), Denial>
     requires { at ≤ length key.now }
     ensures { result ≡ taken_as kind at (dec kind (drop at key.now)) }
 {
     match kind {
         Kind::Boolean => read_flag(key, at),
-        Kind::Unsigned => read_unsigned(key, at),
-        Kind::Signed => read_signed(key, at),
-        Kind::Float => read_float(key, at),
+        Kind::Unsigned => Ok((Field::U64(read_word(key, at)?), at + 8)),
+        Kind::Signed => Ok((Field::I64(unbias(read_word(key, at)?)), at + 8)),
+        Kind::Float => Ok((Field::F64(unflip(read_word(key, at)?)), at + 8)),
         Kind::Binary => read_binary(key, at),
         Kind::String => read_string(key, at),
     }
 }
 
-// A refusal, with an empty row.
-fn denied(d: Denial) -> RowRead
-    ensures { result ≡ failed d }
-{
-    let blank = Cell {
-        field: Field::Flag(false),
-    };
-    let cells = [blank; 8];
-    let row = Row {
-        cells: cells,
-        len: 0,
-    };
-    RowRead {
-        check: Err(d),
-        row: row,
-    }
-}
-
 // The row that a key is; its strings are the parts of their escaped bytes.
-pub fn decode_row(kinds: Kinds, key: &[u8]) -> RowRead
-    ensures { result ≡ read_answer kinds key.now }
+pub fn decode_row(kinds: &[Kind], key: &[u8]) -> Result<Row, Denial>
+    ensures { result ≡ read_answer kinds.now key.now }
 {
-    let n = kinds.len;
-    if 8 < n {
-        return denied(Denial::BadRequest);
+    if 8 < kinds.len() {
+        return Err(Denial::BadRequest);
     }
-    let blank = Cell {
-        field: Field::Flag(false),
-    };
-    let mut cells = [blank; 8];
+    let mut cells = [Field::Flag(false); 8];
     let mut at = 0;
-    let mut i = 0;
-    while i < n {
-        match read_field(kind_at(kinds, i), key, at) {
-            Taken::Read(f, next) => {
-                cells[i] = Cell { field: f };
-                at = next;
-            }
-            Taken::Refused(d) => {
-                return denied(d);
-            }
-        }
-        i += 1;
+    for (i, &kind) in kinds.iter().enumerate() {
+        (cells[i], at) = read_field(kind, key, at)?;
     }
     if at < key.len() {
-        return denied(Denial::BadKey);
+        return Err(Denial::BadKey);
     }
-    let row = Row {
-        cells: cells,
-        len: n,
-    };
-    RowRead {
-        check: Ok(()),
-        row: row,
-    }
+    Ok(Row {
+        cells,
+        len: kinds.len(),
+    })
 }

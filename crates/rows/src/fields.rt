@@ -1,5 +1,7 @@
-// A row's fields and kinds, and what the two calls answer.
-use codecs::{Denial, Kind};
+// A row's fields, and the row that decoding answers.
+ghost use Rattle.std.specs.Prelude.{◌≡◌};
+ghost use Rattle.rows.specs.Promises.{fields_of};
+
 use keycode::Part;
 
 // A field's value. A float is its 64-bit pattern. Bytes and a text are a part of the lent slice: the string itself where a row is
@@ -14,32 +16,18 @@ pub enum Field {
     Text(Part),
 }
 
-#[derive(Clone, Copy)]
-pub struct Cell {
-    pub field: Field,
-}
-
-#[derive(Clone, Copy)]
-pub struct KindCell {
-    pub kind: Kind,
-}
-
-// The first `len` fields, and the first `len` kinds; at most eight.
+// Room for the fields of a row, at most eight, and how many of them stand in it: there is no heap to hold a `Vec`.
 #[derive(Clone, Copy)]
 pub struct Row {
-    pub cells: [Cell; 8],
+    pub cells: [Field; 8],
     pub len: usize,
 }
 
-#[derive(Clone, Copy)]
-pub struct Kinds {
-    pub cells: [KindCell; 8],
-    pub len: usize,
-}
-
-// A decoded row; with a refusal it is empty. (An enum may not hold an array, so the row stands beside the answer.)
-#[derive(Clone, Copy)]
-pub struct RowRead {
-    pub check: Result<(), Denial>,
-    pub row: Row,
+impl Row {
+    // The row's fields.
+    pub fn fields(&self) -> &[Field]
+        ensures { result.now ≡ fields_of self.now }
+    {
+        &self.cells[..self.len.min(8)]
+    }
 }

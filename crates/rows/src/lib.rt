@@ -1,5 +1,5 @@
 // Typed keys: rows of up to eight fields whose kinds are named beforehand. It is the serde half of toydb's encoding/keycode.rs, over lent
-// buffers. Document 02, W5.
+// buffers.
 #![tactic(auto)]
 
 mod decoding;
@@ -9,4 +9,4 @@ mod fields;
 pub use codecs::{Denial, Kind};
 pub use decoding::decode_row;
 pub use encoding::encode_row;
-pub use fields::{Cell, Field, KindCell, Kinds, Row, RowRead};
+pub use fields::{Field, Row};

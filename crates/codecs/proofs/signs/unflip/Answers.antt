@@ -2,8 +2,8 @@
 use Rattle.codecs.proofs.CastLaws.{under_unflipped, over-unflipped}
 use Rattle.codecs.proofs.signs.unflip.Goals as goal
 
-pub returns-then-m-lt9223372036854775808 : goal.returns-then-m-lt9223372036854775808
-returns-then-m-lt9223372036854775808 c = under_unflipped c.args.m c.if-m-lt9223372036854775808.true
+pub returns-then-m-lt-SIGN : goal.returns-then-m-lt-SIGN
+returns-then-m-lt-SIGN c = under_unflipped c.args.m c.if-m-lt-SIGN.true
 
-pub returns-else-m-lt9223372036854775808 : goal.returns-else-m-lt9223372036854775808
-returns-else-m-lt9223372036854775808 c = over-unflipped c.args.m c.if-m-lt9223372036854775808.false
+pub returns-else-m-lt-SIGN : goal.returns-else-m-lt-SIGN
+returns-else-m-lt-SIGN c = over-unflipped c.args.m c.if-m-lt-SIGN.false c.ranges.m.fits

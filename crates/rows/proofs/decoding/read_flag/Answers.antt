@@ -2,20 +2,20 @@
 use Rattle.rows.proofs.ReadLaws.{flag-few, flag_no, flag_yes, flag_wrong}
 use Rattle.rows.proofs.decoding.read_flag.Goals as goal
 
-pub returns-then-key-at : goal.returns-then-key-at
-returns-then-key-at c = flag-few c.args.key.now c.args.at c.if-key-at.true
+pub returns-in-Some-eq0 : goal.returns-in-Some-eq0
+returns-in-Some-eq0 c =
+    let l = c.in-Some-eq0.ensures.lookup in
+    flag_no c.args.key.now c.args.at l.0 _ l.1 c.in-Some-eq0.field-0-test
 
-pub returns-then-b-eq0 : goal.returns-then-b-eq0
-returns-then-b-eq0 c =
-    let a = c.args in
-    flag_no a.key.now a.at c.if-key-at.false c.if-b-eq0.true
+pub returns-in-Some-eq1 : goal.returns-in-Some-eq1
+returns-in-Some-eq1 c =
+    let l = c.in-Some-eq1.ensures.lookup in
+    flag_yes c.args.key.now c.args.at l.0 _ l.1 c.in-Some-eq1.field-0-test
 
-pub returns-then-b-eq1 : goal.returns-then-b-eq1
-returns-then-b-eq1 c =
-    let a = c.args in
-    flag_yes a.key.now a.at c.if-key-at.false c.if-b-eq1.true
+pub returns-in-Some : goal.returns-in-Some
+returns-in-Some c =
+    let l = c.in-Some.ensures.lookup in
+    flag_wrong c.args.key.now c.args.at l.0 _ l.1 c.in-Some.field-0-test.0.1 c.in-Some.field-0-test.1
 
-pub returns : goal.returns
-returns c =
-    let a = c.args in
-    flag_wrong a.key.now a.at c.if-key-at.false c.if-b-eq0.false c.if-b-eq1.false
+pub returns-in-None : goal.returns-in-None
+returns-in-None c = flag-few c.args.key.now c.args.at c.in-None.ensures.lookup.0

@@ -1,21 +1,21 @@
 -- `check_text` is 13 where the part reaches past the texts, then 15 where it is not UTF-8.
-use Rattle.rows.proofs.CheckLaws.{text-past, text_wrong, text_fine}
+use mathlib.Core.Path.{◌≡◌, ◌∙◌}
+use Rattle.std.proofs.Common.{rules}
+use Rattle.std.specs.Prelude.{Err}
+use Rattle.rows.proofs.CheckLaws.{text_past, text_wrong, text_fine}
 use Rattle.rows.proofs.encoding.check_text.Goals as goal
 
-pub returns-then-not-is_within : goal.returns-then-not-is_within
-returns-then-not-is_within c =
-    let a = c.args in
-    text-past a.texts.now a.p _ c.is_within.ensures c.if-not-is_within.true
+pub returns-in_err-check_bytes : goal.returns-in_err-check_bytes
+returns-in_err-check_bytes c =
+    let e : c.from_residual.result ≡ Err c.in_err-check_bytes.field-0.0 = search rules in
+    e ∙ text_past c.args.texts.now c.args.p _ c.check_bytes.ensures _ c.in_err-check_bytes.was
 
 pub returns-then-is_utf8 : goal.returns-then-is_utf8
 returns-then-is_utf8 c =
-    let a = c.args in
-    text_fine a.texts.now a.p _ c.is_within.ensures
-    c.if-not-is_within.false _ _ c.clip.ensures c.is_utf8.ensures
-    c.if-is_utf8.true
+    text_fine c.args.texts.now c.args.p _ c.check_bytes.ensures _ c.in_ok-check_bytes.was
+    _ _ c.clip.ensures c.is_utf8.ensures c.if-is_utf8.true
 
 pub returns-else-is_utf8 : goal.returns-else-is_utf8
 returns-else-is_utf8 c =
-    let a = c.args in
-    text_wrong a.texts.now a.p _ c.is_within.ensures
-    c.if-not-is_within.false _ _ c.clip.ensures c.is_utf8.ensures c.if-is_utf8.false
+    text_wrong c.args.texts.now c.args.p _ c.check_bytes.ensures _ c.in_ok-check_bytes.was
+    _ _ c.clip.ensures c.is_utf8.ensures c.if-is_utf8.false

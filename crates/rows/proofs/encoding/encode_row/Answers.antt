@@ -1,45 +1,44 @@
 -- `encode_row` is refused before a byte is written, or writes all bytes of the row.
+use mathlib.Core.Path.{◌≡◌}
+use Rattle.std.proofs.Common.{rules}
+use Rattle.std.specs.Prelude.{Err}
+use Rattle.rows.proofs.CheckLaws.{some_from, none_from}
 use Rattle.rows.proofs.AnswerLaws.{answer-many, answer-fault, answer-short, answer_done, left_fits, left_within}
 use Rattle.rows.proofs.encoding.encode_row.Goals as goal
 
-pub returns-then-row-gt8 : goal.returns-then-row-gt8
-returns-then-row-gt8 c = let a = c.args in answer-many a.row a.texts.now a.out.now c.if-row-gt8.true
+pub returns-then-fields-gt8 : goal.returns-then-fields-gt8
+returns-then-fields-gt8 c = let a = c.args in answer-many a.fields.now a.texts.now a.out.now c.if-fields-gt8.true
 
-pub returns-in-Err : goal.returns-in-Err
-returns-in-Err c =
+pub returns-in_err-check_fields : goal.returns-in_err-check_fields
+returns-in_err-check_fields c =
     let a = c.args in
-    answer-fault a.row a.texts.now a.out.now c.if-row-gt8.false _
-    c.check_fields.ensures c.in-Err.d c.in-Err.is
+    let e : c.from_residual.result ≡ Err c.in_err-check_fields.field-0.0 = search rules in
+    rw e (answer-fault a.fields.now a.texts.now a.out.now c.if-fields-gt8.false _
+    c.check_fields.ensures _ c.in_err-check_fields.was)
 
-pub overflow_sub-n : goal.overflow_sub-n
-overflow_sub-n c =
+pub returns-in_err-left : goal.returns-in_err-left
+returns-in_err-left c =
     let a = c.args in
-    left_within a.row a.texts.now a.out.now c.if-row-gt8.false _
-    c.check_fields.ensures c.in-Ok.is _
-    c.row_room.ensures _ c.in-Some.is
+    let e : c.from_residual-in_err-left.result ≡ Err c.in_err-left.field-0.0 = search rules in
+    let n = none_from _ _ _ _ c.ok_or.ensures.value c.in_err-left.was in
+    rw (e, n.1) (answer-short a.fields.now a.texts.now a.out.now c.if-fields-gt8.false _
+    c.check_fields.ensures _ c.in_ok-check_fields.was _ c.row_room.ensures n.0)
 
 pub put_row-requires : goal.put_row-requires
 put_row-requires c =
     let a = c.args in
-    let few = c.if-row-gt8.false in (
-      few,
-      left_fits a.row a.texts.now a.out.now few _ c.check_fields.ensures
-          c.in-Ok.is _ c.row_room.ensures _ c.in-Some.is,
-    )
+    left_fits a.fields.now a.texts.now a.out.now c.if-fields-gt8.false _ c.check_fields.ensures
+    _ c.in_ok-check_fields.was _ c.row_room.ensures _ (some_from _ _ _ _ c.ok_or.ensures.value c.in_ok-left.was)
 
-pub returns-in-Some : goal.returns-in-Some
-returns-in-Some c =
+pub overflow_sub-result : goal.overflow_sub-result
+overflow_sub-result c =
     let a = c.args in
-    answer_done a.row a.texts.now a.out.now
-    c.if-row-gt8.false _
-    c.check_fields.ensures
-    c.in-Ok.is _
-    c.row_room.ensures
-    _ c.in-Some.is _ c.put_row.ensures
+    left_within a.fields.now a.texts.now a.out.now c.if-fields-gt8.false _ c.check_fields.ensures
+    _ c.in_ok-check_fields.was _ c.row_room.ensures _ (some_from _ _ _ _ c.ok_or.ensures.value c.in_ok-left.was)
 
-pub returns-in-None : goal.returns-in-None
-returns-in-None c =
+pub returns : goal.returns
+returns c =
     let a = c.args in
-    answer-short a.row a.texts.now a.out.now c.if-row-gt8.false _
-    c.check_fields.ensures c.in-Ok.is _
-    c.row_room.ensures c.in-None.is
+    answer_done a.fields.now a.texts.now a.out.now c.if-fields-gt8.false _ c.check_fields.ensures
+    _ c.in_ok-check_fields.was _ c.row_room.ensures _ (some_from _ _ _ _ c.ok_or.ensures.value c.in_ok-left.was)
+    _ c.put_row.ensures

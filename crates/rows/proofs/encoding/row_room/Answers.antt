@@ -1,38 +1,18 @@
-use mathlib.Core.Path.{refl}
-use native.Mathlib.Omega.{arith}
+use mathlib.Core.Path.{◌∙◌}
 use Rattle.rows.proofs.EncodeLaws.{row_on, row_short, row_left}
 use Rattle.rows.proofs.encoding.row_room.Goals as goal
 
-pub loop-i-init : goal.loop-i-init
-loop-i-init c = refl
+pub returns-in_err-left : goal.returns-in_err-left
+returns-in_err-left c =
+    c.from_residual.ensures ∙ row_short c.args.texts.now c.args.fields.now c.loop-field.field-index c.loop-field-test.true
+    c.args.room c.loop-field.left c.loop-field.invariant _ c.field_room.ensures c.in_err-left.was
 
-pub field_at-requires : goal.field_at-requires
-field_at-requires c = omega (arith, c.requires)
-
-pub returns-in-None : goal.returns-in-None
-returns-in-None c =
-    let a = c.args in
-    row_short a.texts.now a.row c.loop-i.i
-    c.requires
-    c.well_formed.0.1.1.0.1.0.1
-    c.loop-i-test.true c.field_at.result
-    c.field_at.ensures a.room c.loop-i.left
-    c.loop-i.invariant c.field_room.result
-    c.field_room.ensures c.in-None.is
-
-pub loop-i-preserved : goal.loop-i-preserved
-loop-i-preserved c =
-    let a = c.args in
-    row_on a.texts.now a.row c.loop-i.i
-    c.requires
-    c.well_formed.0.1.1.0.1.0.1
-    c.loop-i-test.true c.field_at.result
-    c.field_at.ensures a.room c.loop-i.left
-    c.loop-i.invariant c.field_room.result
-    c.field_room.ensures c.in-Some.m c.in-Some.is
+pub loop-field-preserved : goal.loop-field-preserved
+loop-field-preserved c =
+    row_on c.args.texts.now c.args.fields.now c.loop-field.field-index c.loop-field-test.true
+    c.args.room c.loop-field.left c.loop-field.invariant _ c.field_room.ensures _ c.in_ok-left.was
 
 pub returns : goal.returns
 returns c =
-    let a = c.args in
-    row_left a.texts.now a.row c.loop-i.i a.room c.loop-i.left c.loop-i-test.false
-    c.loop-i.invariant
+    row_left c.args.texts.now c.args.fields.now c.loop-field.field-index c.args.room c.loop-field.left
+    c.loop-field-test.false c.loop-field.invariant

@@ -1,25 +1,23 @@
+use mathlib.Core.Path.{◌∙◌}
 use Rattle.rows.proofs.EncodeLaws.{string_start, string_on, string_short, string_done}
 use Rattle.rows.proofs.encoding.string_room.Goals as goal
 
-pub loop-i-init : goal.loop-i-init
-loop-i-init c = string_start c.args.s.now c.args.room
+pub loop-b-init : goal.loop-b-init
+loop-b-init c = string_start c.args.s.now c.args.room
 
-pub returns-then-left-n : goal.returns-then-left-n
-returns-then-left-n c =
-    let a = c.args in
-    string_short a.s.now a.room c.loop-i.left c.loop-i.i
-    c.loop-i.invariant c.loop-i-test.true c.escaped_byte_len-n.result
-    c.escaped_byte_len-n.ensures c.if-left-n.true
+pub returns-in_err-left : goal.returns-in_err-left
+returns-in_err-left c =
+    c.from_residual.ensures ∙ string_short c.args.s.now c.args.room c.loop-b.left c.loop-b.b-index
+    c.loop-b.invariant c.loop-b-test.true c.escaped_byte_len.result c.escaped_byte_len.ensures
+    _ c.checked_sub.ensures c.in_err-left.was
 
-pub loop-i-preserved : goal.loop-i-preserved
-loop-i-preserved c =
-    let a = c.args in
-    string_on a.s.now a.room c.loop-i.left c.loop-i.i
-    c.loop-i.invariant c.loop-i-test.true c.escaped_byte_len-n.result
-    c.escaped_byte_len-n.ensures c.if-left-n.false
+pub loop-b-preserved : goal.loop-b-preserved
+loop-b-preserved c =
+    string_on c.args.s.now c.args.room c.loop-b.left c.loop-b.b-index
+    c.loop-b.invariant c.loop-b-test.true c.escaped_byte_len.result c.escaped_byte_len.ensures
+    _ c.checked_sub.ensures _ c.in_ok-left.was
 
 pub returns : goal.returns
 returns c =
-    let a = c.args in
-    string_done a.s.now a.room c.loop-i.left c.loop-i.i c.loop-i.invariant
-    c.loop-i-test.false c.minus.result c.minus.ensures
+    string_done c.args.s.now c.args.room c.loop-b.left c.loop-b.b-index
+    c.loop-b.invariant c.loop-b-test.false _ c.checked_sub-2.ensures
