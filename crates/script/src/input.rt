@@ -13,7 +13,8 @@ fn next_byte() -> Option<u8> {
     (io::read_full(0, &mut byte) != 0).then_some(byte[0])
 }
 
-// How many bytes the next line has, its end not counted; None where no line ends any more.
+// How many bytes the next line has, its end not counted; None where no line ends any more. By hand: the buffer is the caller's, and a line
+// is at most as long as it is, so no library reader, which makes its own.
 fn read_line(line: &mut [u8]) -> Result<Option<usize>, TooLong> {
     for (n, place) in line.iter_mut().enumerate() {
         match next_byte() {

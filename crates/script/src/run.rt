@@ -10,11 +10,8 @@ use mvcc::Begun;
 fn show_answer(call: Call, begun: Begun, kept: bool) {
     match begun.answer {
         Err(refusal) => show(Refused { refusal, kept }),
-        Ok(used) => {
-            if !matches!(call, Call::Look(_)) {
-                show(Answer::Used(used));
-            }
-        }
+        Ok(_) if matches!(call, Call::Look(_)) => {}
+        Ok(used) => show(Answer::Used(used)),
     }
     if matches!(call, Call::Start(_)) {
         show(Given(begun.handle));

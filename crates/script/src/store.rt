@@ -3,11 +3,11 @@ use keycode::Refusal;
 use mvcc::Handle;
 use std::mem;
 
-pub(crate) const LOG_BYTES: usize = 16384;
+const LOG_BYTES: usize = 16384;
 
-pub(crate) const TABLE_WORDS: usize = 768;
+const TABLE_WORDS: usize = 768;
 
-pub(crate) const HANDS: usize = 16;
+const HANDS: usize = 16;
 
 // Of the arrays the first `size` bytes, the first `words` words and the first `room` bytes of the spare buffer are lent; a compaction
 // goes into the spare buffer. `refused` is what the last call answered.

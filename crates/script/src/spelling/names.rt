@@ -124,20 +124,13 @@ const CALLS: [(&[u8], Call); 21] = [
 ];
 
 fn named<T: Copy>(list: &[(&[u8], T)], name: &[u8]) -> Option<T> {
-    for (text, meaning) in list {
-        if *text == name {
-            return Some(*meaning);
-        }
-    }
-    None
+    let entry = list.iter().find(|(text, _)| *text == name)?;
+    Some(entry.1)
 }
 
 pub(crate) fn word_of(name: &[u8]) -> Option<Word> {
-    if let Some(edge) = named(&EDGES, name) {
-        return Some(Word::Edge(edge));
-    }
-    if let Some(setting) = named(&SETTINGS, name) {
-        return Some(Word::Setting(setting));
-    }
-    named(&CALLS, name).map(Word::Call)
+    let edge = named(&EDGES, name).map(Word::Edge);
+    let setting = named(&SETTINGS, name).map(Word::Setting);
+    let call = named(&CALLS, name).map(Word::Call);
+    edge.or(setting).or(call)
 }

@@ -5,7 +5,7 @@ ghost use Rattle.std.specs.Prelude.{◌<◌, ◌≤◌, length};
 use keycode::parts::clip;
 
 // Above this a number takes no further digit.
-const TOP: u64 = 1_844_674_407_370_955_161;
+const TOP: u64 = u64::MAX / 10;
 
 // The number at the front of a word, and what stands behind it.
 pub(crate) fn number(word: &[u8]) -> (u64, &[u8])
@@ -43,7 +43,8 @@ fn hex(word: &[u8]) -> u8 {
     nibble(byte_at(word, 0)) * 16 + nibble(byte_at(word, 1))
 }
 
-// The bytes of a word, in a lent buffer; those that find no room are left out.
+// The bytes of a word, in a lent buffer; those that find no room are left out. By hand: a script runs without memory of its own, and a
+// word that is cut short by *0 and goes on by *65 takes up what stands in the buffer.
 #[derive(Drop)]
 struct Spelling<'a> {
     out: &'a mut [u8],
