@@ -37,6 +37,7 @@ fn same_table(table: &[u32], reading: &Reading) -> bool {
     true
 }
 
+// By hand: a `Part` has no `==`.
 fn same_place(a: Part, b: Part) -> bool {
     a.at == b.at && a.len == b.len
 }

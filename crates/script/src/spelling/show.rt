@@ -6,7 +6,7 @@ use mvcc::{Handle, KeyValue, Versions};
 use std::fmt;
 use std::fmt::Write;
 
-// Standard output. A script goes on where it takes nothing.
+// Standard output, by hand: a run is lent a buffer and nothing to print by, and it cannot fail, so a script goes on where nothing is taken.
 #[derive(Clone, Copy)]
 struct Output;
 
