@@ -1,180 +1,143 @@
 // The engine's answers beside the plain reading.
-use crate::plain::{Plain, live, nth, read_log, word_of};
-use crate::tally::{Case, Tally, judge, more};
+use crate::plain::{Live, Reading, read_log};
+use crate::tally::{Case, Tally, more};
 use bitcask::{Bound, KeyValue, Used, get, open, scan_step};
 use keycode::parts::clip;
-use keycode::{Part, Refusal, number_of};
+use keycode::{Part, Refusal};
+use std::alloc::{AllocError, Global};
 
-fn wide(x: u32) -> usize {
-    x as usize
-}
-
-fn same_answer(answer: Result<Used, Refusal>, plain: Plain) -> bool {
+fn same_answer(answer: Result<Used, Refusal>, reading: &Reading) -> bool {
     match answer {
-        Ok(u) => match plain {
-            Plain::Cut(n) => u.len == n,
-            Plain::Full => false,
-        },
-        Err(r) => match plain {
-            Plain::Cut(_) => false,
-            Plain::Full => number_of(r) == 8,
-        },
+        Ok(used) => reading.cut == Some(used.len),
+        Err(refusal) => reading.cut.is_none() && matches!(refusal, Refusal::TableFull),
     }
 }
 
+// A slot's first word is 1 past the entry's offset, and 0 where the slot is free.
+fn same_slot(slot: &[u32], live: Option<&Live>) -> bool {
+    let Some(live) = live else {
+        return slot.iter().all(|word| *word == 0);
+    };
+    let [place, key_len, value_len] = slot else {
+        return false;
+    };
+    (*place as usize).checked_sub(1) == Some(live.entry)
+        && *key_len as usize == live.key.len
+        && *value_len as usize == live.value.len
+}
+
 // Slot i is that of the live key with i live keys below it.
-fn same_words(table: &[u32], last: &[usize; 9]) -> bool {
-    let mut i: usize = 0;
-    while i < table.len() {
-        if wide(table[i]) != word_of(last, nth(last, i / 3), i % 3) {
+fn same_table(table: &[u32], reading: &Reading) -> bool {
+    let mut live = reading.live.values();
+    for slot in table.chunks(3) {
+        if !same_slot(slot, live.next()) {
             return false;
         }
-        i += 1;
     }
     true
 }
 
-// Places are small: a word of a reading is at most a log's length.
-fn plus(a: usize, b: usize) -> usize {
-    std::num::wrapping_add_usize(a, b)
+// By hand: a `Part` has no `==`.
+fn same_place(a: Part, b: Part) -> bool {
+    a.at == b.at && a.len == b.len
 }
 
-fn key_place(last: &[usize; 9], key: usize) -> usize {
-    plus(word_of(last, key, 0), 7)
-}
-
-fn same_key(p: Part, last: &[usize; 9], key: usize) -> bool {
-    p.at == key_place(last, key) && p.len == word_of(last, key, 1)
-}
-
-fn same_value(p: Part, last: &[usize; 9], key: usize) -> bool {
-    p.at == plus(key_place(last, key), word_of(last, key, 1)) && p.len == word_of(last, key, 2)
-}
-
-fn is_live(last: &[usize; 9], key: usize) -> bool {
-    word_of(last, key, 0) != 0
-}
-
-fn same_get(answer: Result<Part, Refusal>, last: &[usize; 9], key: usize) -> bool {
-    match answer {
-        Ok(p) => is_live(last, key) && same_value(p, last, key),
-        Err(r) => !is_live(last, key) && number_of(r) == 1,
+fn same_get(answer: Result<Part, Refusal>, live: Option<&Live>) -> bool {
+    match (answer, live) {
+        (Ok(value), Some(live)) => same_place(value, live.value),
+        (Err(refusal), None) => matches!(refusal, Refusal::Absent),
+        _ => false,
     }
 }
 
-fn run_get(
-    log: &[u8],
-    used: Used,
-    table: &[u32],
-    bytes: &[u8],
-    key: usize,
-    last: &[usize; 9],
-    case: Case,
-    t: Tally,
-) -> Tally {
-    let answer = get(log, used, table, bytes);
-    let mut u = judge(t, same_get(answer, last, key), case);
-    u.gets = more(u.gets);
-    u
-}
-
-fn same_step(answer: Result<KeyValue, Refusal>, last: &[usize; 9], key: usize) -> bool {
-    match answer {
-        Ok(KeyValue { key: k, value: v }) => {
-            is_live(last, key) && same_key(k, last, key) && same_value(v, last, key)
+fn same_step(answer: Result<KeyValue, Refusal>, live: Option<&Live>) -> bool {
+    match (answer, live) {
+        (Ok(pair), Some(live)) => {
+            same_place(pair.key, live.key) && same_place(pair.value, live.value)
         }
-        Err(r) => !is_live(last, key) && number_of(r) == 1,
+        (Err(refusal), None) => matches!(refusal, Refusal::Absent),
+        _ => false,
     }
 }
 
-// Step n, after the key of the step before.
-fn run_step(
-    log: &[u8],
+// An opened log, and what it is to answer.
+#[derive(Clone, Copy)]
+struct Opened<'a, 'l> {
+    log: &'a [u8],
     used: Used,
-    table: &[u32],
-    n: usize,
-    last: &[usize; 9],
+    table: &'a [u32],
+    reading: &'a Reading<'l>,
     case: Case,
-    t: Tally,
-) -> Tally {
-    let given = 0 < n;
-    let before = if given { nth(last, n - 1) } else { 3 };
-    let bytes = clip(log, key_place(last, before), word_of(last, before, 1));
-    let answer = scan_step(
-        log,
-        used,
-        table,
-        Bound::Unbounded,
-        log,
-        Bound::Unbounded,
-        log,
-        given,
-        bytes,
-    );
-    let mut u = judge(t, same_step(answer, last, nth(last, n)), case);
-    u.steps = more(u.steps);
-    u
 }
 
-fn run_steps(
-    log: &[u8],
-    used: Used,
-    table: &[u32],
-    last: &[usize; 9],
-    case: Case,
-    t: Tally,
-) -> Tally {
-    let mut u = t;
-    let mut n: usize = 0;
-    while n <= live(last) {
-        u = run_step(log, used, table, n, last, case, u);
-        n += 1;
+impl Opened<'_, '_> {
+    fn run_get(&self, key: &[u8], tally: &mut Tally) {
+        let answer = get(self.log, self.used, self.table, key);
+        tally.judge(same_get(answer, self.reading.live.get(key)), self.case);
+        tally.gets = more(tally.gets);
     }
-    u
-}
 
-fn run_gets(
-    log: &[u8],
-    used: Used,
-    table: &[u32],
-    last: &[usize; 9],
-    case: Case,
-    t: Tally,
-) -> Tally {
-    let a = [b'a'];
-    let b = [b'b'];
-    let u = run_get(log, used, table, &log[..0], 0, last, case, t);
-    let v = run_get(log, used, table, &a, 1, last, case, u);
-    run_get(log, used, table, &b, 2, last, case, v)
-}
-
-fn is_full(answer: Result<Used, Refusal>) -> bool {
-    match answer {
-        Ok(_) => false,
-        Err(r) => number_of(r) == 8,
+    fn step_after(&self, key: Option<&[u8]>) -> Result<KeyValue, Refusal> {
+        scan_step(
+            self.log,
+            self.used,
+            self.table,
+            Bound::Unbounded,
+            self.log,
+            Bound::Unbounded,
+            self.log,
+            key.is_some(),
+            key.unwrap_or(&[]),
+        )
     }
-}
 
-fn used_after(answer: Result<Used, Refusal>) -> Used {
-    match answer {
-        Ok(u) => u,
-        Err(_) => Used { len: 0 },
+    fn run_step(&self, after: Option<&[u8]>, live: Option<&Live>, tally: &mut Tally) {
+        tally.judge(same_step(self.step_after(after), live), self.case);
+        tally.steps = more(tally.steps);
+    }
+
+    // A step to each live key, and one past the last.
+    fn run_steps(&self, tally: &mut Tally) {
+        let mut after = None;
+        for (key, live) in self.reading.live.iter() {
+            self.run_step(after, Some(live), tally);
+            after = Some(*key);
+        }
+        self.run_step(after, None, tally);
+    }
+
+    fn run(&self, tally: &mut Tally) {
+        self.run_get(b"", tally);
+        self.run_get(b"a", tally);
+        self.run_get(b"b", tally);
+        self.run_steps(tally);
     }
 }
 
 // One opening into a table as it is lent; after one that is not refused, the gets and a scan.
-pub fn run_open(log: &[u8], table: &mut [u32], case: Case, t: Tally) -> Tally {
-    let mut last = [0usize; 9];
-    let plain = read_log(log, case.used, case.slots, &mut last);
+pub fn run_open(
+    alloc: Global,
+    log: &[u8],
+    table: &mut [u32],
+    case: Case,
+    tally: &mut Tally,
+) -> Result<(), AllocError> {
+    let reading = read_log(alloc, clip(log, 0, case.used), case.slots)?;
     let answer = open(log, Used { len: case.used }, table);
-    let mut u = judge(t, same_answer(answer, plain), case);
-    u = judge(u, same_words(table, &last), case);
-    u.openings = more(u.openings);
-    if is_full(answer) {
-        u.full = more(u.full);
-        return u;
+    tally.judge(same_answer(answer, &reading), case);
+    tally.judge(same_table(table, &reading), case);
+    tally.openings = more(tally.openings);
+    let opened = Opened {
+        log,
+        used: answer.unwrap_or(Used { len: 0 }),
+        table,
+        reading: &reading,
+        case,
+    };
+    if matches!(answer, Err(Refusal::TableFull)) {
+        tally.full = more(tally.full);
+    } else {
+        opened.run(tally);
     }
-    let used = used_after(answer);
-    u = run_gets(log, used, table, &last, case, u);
-    run_steps(log, used, table, &last, case, u)
+    Ok(())
 }

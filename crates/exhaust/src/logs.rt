@@ -1,72 +1,31 @@
 // Small logs, made from numbers. Each entry is one of twelve: a key "", "a" or "b", and an empty value, the value "x", or a tombstone
 // whose length is written as -1 or as the lowest i32.
-pub const KINDS: usize = 12;
+use std::alloc::{AllocError, Global};
 
-pub const LONGEST: usize = 32;
+// What is written as a key's length, and the key.
+const KEYS: [(u32, &[u8]); 3] = [(0, b""), (1, b"a"), (1, b"b")];
 
-fn put(log: &mut [u8], at: usize, byte: u8) -> usize {
-    if log.len() <= at {
-        return at;
-    }
-    log[at] = byte;
-    at + 1
+// The same of a value.
+const VALUES: [(i32, &[u8]); 4] = [(0, b""), (1, b"x"), (-1, b""), (i32::MIN, b"")];
+
+pub const KINDS: usize = KEYS.len() * VALUES.len();
+
+fn put_entry(log: &mut Vec<u8>, kind: usize) -> Result<(), AllocError> {
+    let (key_len, key) = KEYS[kind / 4 % 3];
+    let (value_len, value) = VALUES[kind % 4];
+    log.extend_from_slice(&key_len.to_be_bytes())?;
+    log.extend_from_slice(&value_len.to_be_bytes())?;
+    log.extend_from_slice(key)?;
+    log.extend_from_slice(value)
 }
 
-fn put_word(log: &mut [u8], at: usize, high: u8, middle: u8, low: u8) -> usize {
-    let a = put(log, at, high);
-    let b = put(log, a, middle);
-    let c = put(log, b, middle);
-    put(log, c, low)
-}
-
-fn put_value_len(log: &mut [u8], at: usize, value: usize) -> usize {
-    match value {
-        0 => put_word(log, at, 0, 0, 0),
-        1 => put_word(log, at, 0, 0, 1),
-        2 => put_word(log, at, 255, 255, 255),
-        _ => put_word(log, at, 128, 0, 0),
-    }
-}
-
-fn put_key_len(log: &mut [u8], at: usize, key: usize) -> usize {
-    match key {
-        0 => put_word(log, at, 0, 0, 0),
-        _ => put_word(log, at, 0, 0, 1),
-    }
-}
-
-fn put_key(log: &mut [u8], at: usize, key: usize) -> usize {
-    match key {
-        0 => at,
-        1 => put(log, at, b'a'),
-        _ => put(log, at, b'b'),
-    }
-}
-
-fn put_value(log: &mut [u8], at: usize, value: usize) -> usize {
-    match value {
-        1 => put(log, at, b'x'),
-        _ => at,
-    }
-}
-
-fn put_entry(log: &mut [u8], at: usize, key: usize, value: usize) -> usize {
-    let a = put_key_len(log, at, key);
-    let b = put_value_len(log, a, value);
-    let c = put_key(log, b, key);
-    put_value(log, c, value)
-}
-
-// The log of so many entries whose kinds are the digits of code, the lowest first. Its length is answered.
-pub fn make_log(log: &mut [u8], entries: usize, code: usize) -> usize {
-    let mut at: usize = 0;
+// The log of so many entries whose kinds are the digits of code, the lowest first.
+pub fn make_log(alloc: Global, entries: usize, code: usize) -> Result<Vec<u8>, AllocError> {
+    let mut log = Vec::new(alloc);
     let mut rest = code;
-    let mut i: usize = 0;
-    while i < entries {
-        let kind = rest % KINDS;
-        at = put_entry(log, at, kind / 4, kind % 4);
-        rest = rest / KINDS;
-        i += 1;
+    for _ in 0..entries {
+        put_entry(&mut log, rest % KINDS)?;
+        rest /= KINDS;
     }
-    at
+    Ok(log)
 }

@@ -10,75 +10,49 @@ mod show;
 mod tally;
 
 use compare::run_open;
-use keycode::parts::clip;
-use logs::{KINDS, LONGEST, make_log};
-use tally::{Case, Tally, more, nothing};
+use logs::{KINDS, make_log};
+use std::alloc::{AllocError, Global};
+use std::io;
+use tally::{Case, Tally, more, show_tally};
 
-fn run_table(log: &[u8], case: Case, t: Tally) -> Tally {
-    let mut table = [7u32; 9];
-    let slots = case.slots;
-    if 3 < slots {
-        return t;
+// One log, cut at every length and opened into tables of every size.
+fn run_log(
+    alloc: Global,
+    entries: usize,
+    code: usize,
+    tally: &mut Tally,
+) -> Result<(), AllocError> {
+    let log = make_log(alloc, entries, code)?;
+    for used in 0..=log.len() {
+        for slots in 0..=3 {
+            let case = Case {
+                entries,
+                code,
+                used,
+                slots,
+            };
+            let mut table = [7u32; 9];
+            run_open(alloc, log.as_slice(), &mut table[..3 * slots], case, tally)?;
+        }
     }
-    let words = 3 * slots;
-    run_open(log, &mut table[..words], case, t)
+    tally.logs = more(tally.logs);
+    Ok(())
 }
 
-fn run_tables(log: &[u8], case: Case, t: Tally) -> Tally {
-    let mut u = t;
-    let mut slots: usize = 0;
-    while slots < 4 {
-        let c = Case {
-            entries: case.entries,
-            code: case.code,
-            used: case.used,
-            slots,
-        };
-        u = run_table(log, c, u);
-        slots += 1;
+fn run_logs(alloc: Global) -> Result<Tally, AllocError> {
+    let mut tally = Tally::default();
+    let codes = [1, KINDS, KINDS * KINDS, KINDS * KINDS * KINDS];
+    for (entries, end) in codes.into_iter().enumerate() {
+        for code in 0..end {
+            run_log(alloc, entries, code, &mut tally)?;
+        }
     }
-    u
+    Ok(tally)
 }
 
-fn run_cuts(log: &[u8], entries: usize, code: usize, t: Tally) -> Tally {
-    let mut u = t;
-    let mut used: usize = 0;
-    while used <= log.len() {
-        let c = Case {
-            entries,
-            code,
-            used,
-            slots: 0,
-        };
-        u = run_tables(log, c, u);
-        used += 1;
-    }
-    u
-}
-
-fn run_log(entries: usize, code: usize, t: Tally) -> Tally {
-    let mut log = [0u8; LONGEST];
-    let len = make_log(&mut log, entries, code);
-    let mut u = run_cuts(clip(&log, 0, len), entries, code, t);
-    u.logs = more(u.logs);
-    u
-}
-
-fn run_logs(entries: usize, codes: usize, t: Tally) -> Tally {
-    let mut u = t;
-    let mut code: usize = 0;
-    while code < codes {
-        u = run_log(entries, code, u);
-        code += 1;
-    }
-    u
-}
-
-fn main() {
-    let a = run_logs(0, 1, nothing());
-    let b = run_logs(1, KINDS, a);
-    let c = run_logs(2, KINDS * KINDS, b);
-    let d = run_logs(3, KINDS * KINDS * KINDS, c);
-    show::show_tally(d);
-    readings::show_readings();
+fn main(rt: HostRuntime) -> io::Result<()> {
+    let alloc = rt.alloc();
+    let tally = run_logs(alloc)?;
+    show_tally(&rt, alloc, &tally)?;
+    readings::show_readings(&rt)
 }

@@ -1,5 +1,10 @@
 // What the runs count, and the first case that differed.
-#[derive(Clone, Copy)]
+use crate::logs::make_log;
+use crate::show::Hex;
+use std::alloc::Global;
+use std::{fmt, io};
+
+#[derive(Clone, Copy, Debug, PartialEq, Eq)]
 pub struct Case {
     pub entries: usize,
     pub code: usize,
@@ -7,7 +12,7 @@ pub struct Case {
     pub slots: usize,
 }
 
-#[derive(Clone, Copy)]
+#[derive(Clone, Copy, Debug, Default, PartialEq, Eq)]
 pub struct Tally {
     pub logs: u64,
     pub openings: u64,
@@ -15,40 +20,47 @@ pub struct Tally {
     pub gets: u64,
     pub steps: u64,
     pub wrong: u64,
-    pub first: Case,
-}
-
-pub fn nothing() -> Tally {
-    let first = Case {
-        entries: 0,
-        code: 0,
-        used: 0,
-        slots: 0,
-    };
-    Tally {
-        logs: 0,
-        openings: 0,
-        full: 0,
-        gets: 0,
-        steps: 0,
-        wrong: 0,
-        first,
-    }
+    pub first: Option<Case>,
 }
 
 // No run counts as far as 2^64.
 pub fn more(n: u64) -> u64 {
-    std::num::wrapping_add_u64(n, 1)
+    n.wrapping_add(1)
 }
 
-pub fn judge(t: Tally, right: bool, case: Case) -> Tally {
-    let mut u = t;
-    if right {
-        return u;
+impl Tally {
+    pub fn judge(&mut self, right: bool, case: Case) {
+        if !right {
+            self.first = self.first.or(Some(case));
+            self.wrong = more(self.wrong);
+        }
     }
-    if u.wrong == 0 {
-        u.first = case;
+}
+
+impl fmt::Display for Tally {
+    fn fmt<W: fmt::Write>(&self, f: &mut fmt::Formatter<W>) -> fmt::Result {
+        writeln!(f, "logs {}", self.logs)?;
+        writeln!(f, "openings {}", self.openings)?;
+        writeln!(f, "openings refused with 8 {}", self.full)?;
+        writeln!(f, "gets {}", self.gets)?;
+        writeln!(f, "scan steps {}", self.steps)?;
+        writeln!(f, "differences {}", self.wrong)
     }
-    u.wrong = more(u.wrong);
-    u
+}
+
+fn show_case(rt: &impl Print, alloc: Global, case: Case) -> io::Result<()> {
+    let log = make_log(alloc, case.entries, case.code)?;
+    let bytes = Hex(log.as_slice());
+    println!(rt;
+        "first difference: log {bytes} used {} slots {}",
+        case.used, case.slots
+    )
+}
+
+pub fn show_tally(rt: &impl Print, alloc: Global, tally: &Tally) -> io::Result<()> {
+    print!(rt; "{tally}")?;
+    if let Some(case) = tally.first {
+        show_case(rt, alloc, case)?;
+    }
+    Ok(())
 }

@@ -1,144 +1,129 @@
-// Every call of the library, lent the store's bytes and words. What a call that only looks shows with a 0 goes out at once where the
-// caller is loud.
-use crate::spelling::asked::Asked;
-use crate::spelling::names::{
-    ABOVE, AS_OF, BEGIN, BELOW, COMMIT, COMPACT, CUT, DELETE, ENGINE_GET, ENGINE_STATUS, FROM, GET,
-    GET_UNVERSIONED, LAY, RAW, READ_ONLY, ROLLBACK, SCAN, SCAN_PREFIX, SET, SET_UNVERSIONED, TO,
-};
-use crate::spelling::show::{counted, located, stated, stepped};
+// Every call of the library, lent the store's bytes and words.
+use crate::spelling::names::{Call, Change, Look, Start};
+use crate::spelling::show::{Answer, show};
 use bitcask::Used;
 use keycode::Refusal;
 use mvcc::{Begun, Bound, Handle};
 
-fn bound_of(name: usize) -> Bound {
-    match name {
-        FROM | TO => Bound::Included,
-        ABOVE | BELOW => Bound::Excluded,
-        _ => Bound::Unbounded,
-    }
+// What a line gives a call. In a scan step the key and the value are those of the bounds.
+#[derive(Clone, Copy)]
+pub(crate) struct Request<'a> {
+    pub(crate) lower: Bound,
+    pub(crate) upper: Bound,
+    pub(crate) key: &'a [u8],
+    pub(crate) value: &'a [u8],
+    pub(crate) last: Option<&'a [u8]>,
+    pub(crate) version: u64,
 }
 
-fn started(
-    name: usize,
-    used: Used,
-    h: Handle,
-    version: u64,
-    log: &mut [u8],
-    table: &mut [u32],
-) -> Begun {
-    match name {
-        BEGIN => mvcc::begin(log, used, table),
-        READ_ONLY => mvcc::begin_read_only(log, used, table),
-        AS_OF => mvcc::begin_as_of(log, used, table, version),
-        _ => mvcc::resume(log, used, table, h),
-    }
-}
-
-// In a scan step the key and the value are those of the bounds.
-fn looked(
-    a: Asked,
-    used: Used,
-    h: Handle,
-    log: &[u8],
-    table: &[u32],
-    key: &[u8],
-    value: &[u8],
-    last: &[u8],
-) -> Result<Used, Refusal> {
-    let loud = a.loud;
-    let after = a.after;
-    let lower = bound_of(a.lower);
-    let upper = bound_of(a.upper);
-    let name = a.name;
-    match name {
-        GET => located(log, mvcc::get(log, used, table, h, key), loud, used),
-        GET_UNVERSIONED => located(
-            log,
-            mvcc::get_unversioned(log, used, table, key),
-            loud,
-            used,
-        ),
-        ENGINE_GET => located(log, bitcask::get(log, used, table, key), loud, used),
-        SCAN => stepped(
-            log,
-            mvcc::scan_step(log, used, table, h, lower, key, upper, value, after, last),
-            loud,
-            used,
-        ),
-        SCAN_PREFIX => stepped(
-            log,
-            mvcc::scan_prefix_step(log, used, table, h, key, after, last),
-            loud,
-            used,
-        ),
-        ENGINE_STATUS => counted(bitcask::status(log, used, table), loud, used),
-        _ => stated(mvcc::status(log, used, table), loud, used),
-    }
+// What of a store is lent to a call.
+#[derive(Drop)]
+pub(crate) struct Lent<'a> {
+    pub(crate) used: Used,
+    pub(crate) handle: Handle,
+    pub(crate) log: &'a mut [u8],
+    pub(crate) table: &'a mut [u32],
+    pub(crate) target: &'a mut [u8],
 }
 
 // Bytes behind the used length, whatever they are.
 fn raw(log: &mut [u8], used: Used, bytes: &[u8]) -> Result<Used, Refusal> {
-    let at = used.len;
-    if log.len() < at {
-        return Err(Refusal::BadRequest);
-    }
-    if log.len() - at < bytes.len() {
-        return Err(Refusal::LogFull);
-    }
+    let free = log.get_mut(used.len..).ok_or(Refusal::BadRequest)?;
+    let place = free.get_mut(..bytes.len()).ok_or(Refusal::LogFull)?;
+    place.copy_from_slice(bytes);
     Ok(Used {
-        len: bitcask::entry::copy_into(bytes, log, at),
+        len: used.len + bytes.len(),
     })
 }
 
-fn written(
-    name: usize,
-    used: Used,
-    h: Handle,
-    log: &mut [u8],
-    table: &mut [u32],
-    target: &mut [u8],
-    key: &[u8],
-    value: &[u8],
-) -> Result<Used, Refusal> {
-    match name {
-        SET => mvcc::set(log, used, table, h, key, value),
-        DELETE => mvcc::delete(log, used, table, h, key),
-        SET_UNVERSIONED => mvcc::set_unversioned(log, used, table, key, value),
-        COMMIT => mvcc::commit(log, used, table, h),
-        ROLLBACK => mvcc::rollback(log, used, table, h),
-        LAY => bitcask::set(log, used, table, key, value),
-        CUT => bitcask::delete(log, used, table, key),
-        RAW => raw(log, used, key),
-        COMPACT => bitcask::compact(log, used, table, target),
-        _ => bitcask::open(log, used, table),
+impl Lent<'_> {
+    fn started(&mut self, start: Start, version: u64) -> Begun {
+        let log = &mut *self.log;
+        let table = &mut *self.table;
+        let used = self.used;
+        match start {
+            Start::Begin => mvcc::begin(log, used, table),
+            Start::ReadOnly => mvcc::begin_read_only(log, used, table),
+            Start::AsOf => mvcc::begin_as_of(log, used, table, version),
+            Start::Resume => mvcc::resume(log, used, table, self.handle),
+        }
     }
-}
 
-// A call that gives no handle gives back the one it was given.
-pub(crate) fn answered(
-    a: Asked,
-    used: Used,
-    h: Handle,
-    version: u64,
-    log: &mut [u8],
-    table: &mut [u32],
-    target: &mut [u8],
-    key: &[u8],
-    value: &[u8],
-    last: &[u8],
-) -> Begun {
-    let name = a.name;
-    if name < GET {
-        return started(name, used, h, version, log, table);
+    fn looked(&self, look: Look, request: &Request) -> Result<Answer<'_>, Refusal> {
+        let log = &*self.log;
+        let table = &*self.table;
+        let used = self.used;
+        let handle = self.handle;
+        let key = request.key;
+        let after = request.last.is_some();
+        let last = request.last.unwrap_or(&[]);
+        Ok(match look {
+            Look::Get => Answer::value(log, mvcc::get(log, used, table, handle, key)?),
+            Look::GetUnversioned => {
+                Answer::value(log, mvcc::get_unversioned(log, used, table, key)?)
+            }
+            Look::EngineGet => Answer::value(log, bitcask::get(log, used, table, key)?),
+            Look::Scan => {
+                let pair = mvcc::scan_step(
+                    log,
+                    used,
+                    table,
+                    handle,
+                    request.lower,
+                    key,
+                    request.upper,
+                    request.value,
+                    after,
+                    last,
+                )?;
+                Answer::pair(log, pair)
+            }
+            Look::ScanPrefix => {
+                let pair = mvcc::scan_prefix_step(log, used, table, handle, key, after, last)?;
+                Answer::pair(log, pair)
+            }
+            Look::EngineStatus => Answer::Counts(bitcask::status(log, used, table)?),
+            Look::Status => Answer::Versions(mvcc::status(log, used, table)?),
+        })
     }
-    if name < SET {
-        return Begun {
-            answer: looked(a, used, h, log, table, key, value, last),
-            handle: h,
+
+    fn changed(&mut self, change: Change, request: &Request) -> Result<Used, Refusal> {
+        let log = &mut *self.log;
+        let table = &mut *self.table;
+        let used = self.used;
+        let handle = self.handle;
+        let key = request.key;
+        let value = request.value;
+        match change {
+            Change::Set => mvcc::set(log, used, table, handle, key, value),
+            Change::Delete => mvcc::delete(log, used, table, handle, key),
+            Change::SetUnversioned => mvcc::set_unversioned(log, used, table, key, value),
+            Change::Commit => mvcc::commit(log, used, table, handle),
+            Change::Rollback => mvcc::rollback(log, used, table, handle),
+            Change::Lay => bitcask::set(log, used, table, key, value),
+            Change::Cut => bitcask::delete(log, used, table, key),
+            Change::Raw => raw(log, used, key),
+            Change::Open => bitcask::open(log, used, table),
+            Change::Compact => bitcask::compact(log, used, table, self.target),
+        }
+    }
+
+    // A call that gives no handle gives back the one it was given. What a call that only looks shows with a 0 goes out at once where the
+    // caller is loud.
+    pub(crate) fn answered(&mut self, call: Call, request: &Request, loud: bool) -> Begun {
+        let answer = match call {
+            Call::Start(start) => return self.started(start, request.version),
+            Call::Change(change) => self.changed(change, request),
+            Call::Look(look) => self.looked(look, request).map(|answer| {
+                if loud {
+                    show(answer);
+                }
+                self.used
+            }),
         };
-    }
-    Begun {
-        answer: written(name, used, h, log, table, target, key, value),
-        handle: h,
+        Begun {
+            answer,
+            handle: self.handle,
+        }
     }
 }

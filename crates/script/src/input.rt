@@ -1,53 +1,45 @@
 // Standard input, line by line, into a lent buffer: a script may have any length, a line that of the buffer.
 use crate::lines::run_line;
 use crate::spelling::show::text;
-use crate::spelling::spell::byte_at;
-use crate::store::empty;
+use crate::store::Store;
 use keycode::parts::clip;
 
-// Past every buffer.
-const ENDED: usize = usize::MAX;
+// A line has no end where the buffer has one.
+#[derive(Clone, Copy, Debug, PartialEq, Eq)]
+struct TooLong;
 
-// The next byte, or 256 where there is none.
-fn next_byte() -> u64 {
-    let mut one = [0u8; 1];
-    if io::read_full(0, &mut one) == 0 {
-        return 256;
-    }
-    byte_at(&one, 0) as u64
+fn next_byte() -> Option<u8> {
+    let mut byte = [0u8; 1];
+    (io::read_full(0, &mut byte) != 0).then_some(byte[0])
 }
 
-// How many bytes the next line has, its end not counted; the buffer's length where it has no more room, ENDED where no line ends any more.
-fn read_line(line: &mut [u8]) -> usize {
-    let mut n: usize = 0;
-    while n < line.len() {
-        let byte = next_byte();
-        if 255 < byte {
-            return ENDED;
+// How many bytes the next line has, its end not counted; None where no line ends any more. By hand: the buffer is the caller's, and a line
+// is at most as long as it is, so no library reader, which makes its own.
+fn read_line(line: &mut [u8]) -> Result<Option<usize>, TooLong> {
+    for (n, place) in line.iter_mut().enumerate() {
+        match next_byte() {
+            None => return Ok(None),
+            Some(b'\n') => return Ok(Some(n)),
+            Some(byte) => *place = byte,
         }
-        if byte == 10 {
-            return n;
-        }
-        line[n] = byte as u8;
-        n += 1;
     }
-    n
+    Err(TooLong)
 }
 
-// A proved loop has to end, and nothing says that an input does: it counts its turns down from a number that no run uses up.
+// A proved loop has to end, and nothing says that an input does: it has a number of turns that no run uses up.
 pub fn run_input(line: &mut [u8]) {
-    let mut store = empty();
-    let mut turns = u64::MAX;
-    while 0 < turns {
-        let n = read_line(line);
-        if n == line.len() {
-            text(b"LINE TOO LONG");
+    let mut store = Store::empty();
+    for _ in 0..u64::MAX {
+        match read_line(line) {
+            Ok(Some(n)) => {
+                run_line(clip(line, 0, n), &mut store);
+                text(b"\n");
+            }
+            Ok(None) => return,
+            Err(TooLong) => {
+                text(b"LINE TOO LONG");
+                return;
+            }
         }
-        if line.len() <= n {
-            return;
-        }
-        store = run_line(clip(line, 0, n), store);
-        text(b"\n");
-        turns -= 1;
     }
 }

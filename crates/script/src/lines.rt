@@ -1,104 +1,83 @@
 // A line of a script: what a line asks is done in turn, and the answer of its last call written behind the line.
-use crate::run::run;
-use crate::setting::set_up;
-use crate::spelling::asked::{Asked, ask, nothing};
-use crate::spelling::names::{BEGIN, COMPACT, ROOM};
+use crate::calls::Request;
+use crate::spelling::asked::Asked;
+use crate::spelling::names::{Call, Word, word_of};
 use crate::spelling::show::text;
-use crate::spelling::spell::{byte_at, find, number_at, plus, spell};
-use crate::store::{Store, empty};
-use keycode::Part;
-use keycode::parts::clip;
+use crate::spelling::spell::{number, spell};
+use crate::store::Store;
 
-fn spell_part(line: &[u8], p: Part, out: &mut [u8]) -> usize {
-    spell(clip(line, p.at, p.len), out)
-}
-
-// A call with the strings at three places of the line.
-fn call(line: &[u8], s: Store, a: Asked, n: u64) -> Store {
+// A call with the strings that were asked.
+fn run_call(call: Call, asked: &Asked, loud: bool, store: &mut Store) {
     let mut key = [0u8; 512];
     let mut value = [0u8; 4200];
-    let mut last = [0u8; 512];
-    let first = a.first;
-    let second = a.second;
-    let third = a.last;
-    let k = spell_part(line, first, &mut key);
-    let v = spell_part(line, second, &mut value);
-    let l = spell_part(line, third, &mut last);
-    run(
-        s,
-        a,
-        n,
-        clip(&key, 0, k),
-        clip(&value, 0, v),
-        clip(&last, 0, l),
-    )
+    let mut after = [0u8; 512];
+    let (version, _) = number(asked.first);
+    let last = asked.last.map(|word| spell(word, &mut after));
+    let request = Request {
+        lower: asked.lower,
+        upper: asked.upper,
+        key: spell(asked.first, &mut key),
+        value: spell(asked.second, &mut value),
+        last,
+        version,
+    };
+    store.run(call, &request, loud);
 }
 
 // The first word behind a name may be a number.
-fn perform(line: &[u8], s: Store, a: Asked) -> Store {
-    let name = a.name;
-    let first = a.first;
-    let n = number_at(clip(line, first.at, first.len), 0).value;
-    if name < ROOM {
-        return s;
+fn perform<'a>(words: &'a [u8], loud: bool, asked: &mut Asked<'a>, store: &mut Store) {
+    let mut words = words.split(|byte| *byte == b' ');
+    let word = word_of(words.next().unwrap_or(&[]));
+    let first = words.next().unwrap_or(&[]);
+    let second = words.next().unwrap_or(&[]);
+    asked.take(word, first, second);
+    match word {
+        Some(Word::Edge(_)) => {}
+        Some(Word::Setting(setting)) => store.set_up(setting, number(first).0),
+        Some(Word::Call(call)) => run_call(call, asked, loud, store),
+        None => text(b" UNKNOWN WORD"),
     }
-    if name < BEGIN {
-        return set_up(s, name, n);
-    }
-    if name <= COMPACT {
-        return call(line, s, a, n);
-    }
-    text(b" UNKNOWN WORD");
-    s
 }
 
 // A call that others follow must not be refused: the case would not be what its words say.
-fn sure(s: Store) {
-    if s.number != 0 {
+fn warn(store: &Store) {
+    if store.refused.is_some() {
         text(b" REFUSED BEFORE");
     }
 }
 
-// What stands from a place on between commas, in turn. The answer of the call that ends where `shown` says is shown.
-fn run_calls(line: &[u8], start: Store, at: usize, shown: usize) -> Store {
-    let mut s = start;
-    s.number = 0;
-    let mut a = nothing();
-    let mut i = at;
-    let mut turns = line.len();
-    while 0 < turns {
-        if line.len() <= i {
-            return s;
-        }
-        sure(s);
-        let stop = find(line, i, line.len(), b',');
-        a = ask(line, a, i, stop);
-        a.loud = shown == stop;
-        s = perform(line, s, a);
-        i = plus(stop, 2);
-        turns -= 1;
+// What stands between commas, in turn, behind each a space. The answer of the last call is shown where the line shows one.
+fn run_calls(line: &[u8], shows: bool, store: &mut Store) {
+    store.refused = None;
+    let mut asked = Asked::nothing();
+    let mut rest = line;
+    while !rest.is_empty() {
+        warn(store);
+        let end = rest
+            .iter()
+            .position(|byte| *byte == b',')
+            .unwrap_or(rest.len());
+        let (words, behind) = rest.split_at(end);
+        perform(words, shows && behind.is_empty(), &mut asked, store);
+        rest = behind.get(2..).unwrap_or(&[]);
     }
-    s
 }
 
-fn run_given(line: &[u8]) -> Store {
-    let s = run_calls(line, empty(), 7, 0);
-    sure(s);
-    s
-}
-
-// The store that the next line starts from.
-pub(crate) fn run_line(line: &[u8], given: Store) -> Store {
+// The store is left as the next line starts from it.
+pub(crate) fn run_line(line: &[u8], store: &mut Store) {
     text(line);
-    let n = line.len();
-    match byte_at(line, 0) {
-        b'G' => run_given(line),
-        b'A'..=b'Z' => empty(),
-        b'>' => run_calls(line, given, 2, n),
-        b'a'..=b'z' => {
-            run_calls(line, given, 0, n);
-            given
+    match line.first() {
+        Some(b'G') => {
+            *store = Store::empty();
+            run_calls(line.get(7..).unwrap_or(&[]), false, store);
+            warn(store);
         }
-        _ => given,
+        Some(b'A'..=b'Z') => *store = Store::empty(),
+        Some(b'>') => run_calls(line.get(2..).unwrap_or(&[]), true, store),
+        Some(b'a'..=b'z') => {
+            let mut own = *store;
+            run_calls(line, true, &mut own);
+        }
+        _ => {}
     }
 }

@@ -1,60 +1,33 @@
 // What a case sets before its call: the sizes that are lent, the used length, the hand and the handle in it.
-use crate::spelling::names::{HAND, READER, ROOM, SHORT, SLOTS, TARGET, USED, WITH, WORDS, WRITER};
-use crate::spelling::spell::{minus, plus};
-use crate::store::{Store, TABLE_WORDS, held, hold};
+use crate::spelling::names::Setting;
+use crate::store::Store;
 use mvcc::Handle;
 
-// The words of the slots in use.
-fn live(table: &[u32; TABLE_WORDS]) -> usize {
-    let mut i: usize = 0;
-    while i < TABLE_WORDS {
-        if table[i] == 0 {
-            return i;
+impl Store {
+    fn slots_in_use(&self) -> usize {
+        let places = self.table.iter().step_by(3);
+        places.take_while(|place| **place != 0).count()
+    }
+
+    // `n` is the word behind the name. No size is too large to be set: what is not there is not lent.
+    pub(crate) fn set_up(&mut self, setting: Setting, n: u64) {
+        let size = n as usize;
+        match setting {
+            Setting::Room => self.size = self.used.wrapping_add(size),
+            Setting::Short => self.size = self.used.wrapping_sub(1),
+            Setting::Words => self.words = size,
+            Setting::Slots => self.words = self.slots_in_use().wrapping_add(size).wrapping_mul(3),
+            Setting::Used => self.used = size,
+            Setting::Target => self.room = size,
+            Setting::Hand => self.hand = size,
+            Setting::Writer => self.hold(Handle::fresh(n, false)),
+            Setting::Reader => self.hold(Handle::fresh(n, true)),
+            Setting::With => self.hold(self.held().with(n)),
+            // A set with so many versions, whether it has them or not.
+            Setting::Count => self.hold(Handle {
+                count: size,
+                ..self.held()
+            }),
         }
-        i += 3;
     }
-    TABLE_WORDS
-}
-
-fn free(s: Store, n: usize) -> usize {
-    let table = s.table;
-    plus(live(&table), plus(n, plus(n, n)))
-}
-
-fn lend(s: Store, name: usize, n: usize) -> Store {
-    let mut t = s;
-    match name {
-        ROOM => t.size = plus(s.used, n),
-        SHORT => t.size = minus(s.used, 1),
-        WORDS => t.words = n,
-        SLOTS => t.words = free(s, n),
-        USED => t.used = n,
-        TARGET => t.room = n,
-        _ => t.hand = n,
-    }
-    t
-}
-
-// A set with so many versions, whether it has them or not.
-fn recounted(h: Handle, count: usize) -> Handle {
-    let mut g = h;
-    g.count = count;
-    g
-}
-
-fn made(h: Handle, name: usize, n: u64) -> Handle {
-    match name {
-        WRITER => Handle::fresh(n, false),
-        READER => Handle::fresh(n, true),
-        WITH => h.with(n),
-        _ => recounted(h, n as usize),
-    }
-}
-
-// `n` is the word behind the name.
-pub(crate) fn set_up(s: Store, name: usize, n: u64) -> Store {
-    if name <= HAND {
-        return lend(s, name, n as usize);
-    }
-    hold(s, made(held(s), name, n))
 }

@@ -1,89 +1,72 @@
-// A store by value: a case runs from a store that other cases start from too.
-use crate::spelling::names::is;
+// A store by value: a case runs from a copy of the store that other cases start from too.
+use keycode::Refusal;
 use mvcc::Handle;
+use std::mem;
 
-pub(crate) const LOG_BYTES: usize = 16384;
+const LOG_BYTES: usize = 16384;
 
-pub(crate) const TABLE_WORDS: usize = 768;
+const TABLE_WORDS: usize = 768;
 
-pub(crate) const HANDS: usize = 16;
+const HANDS: usize = 16;
 
 // Of the arrays the first `size` bytes, the first `words` words and the first `room` bytes of the spare buffer are lent; a compaction
-// goes into the spare buffer. `number` is what the last call answered.
+// goes into the spare buffer. `refused` is what the last call answered.
 #[derive(Clone, Copy)]
-pub struct Store {
-    pub size: usize,
-    pub words: usize,
-    pub room: usize,
-    pub used: usize,
-    pub hand: usize,
-    pub number: u64,
-    pub log: [u8; LOG_BYTES],
-    pub spare: [u8; LOG_BYTES],
-    pub table: [u32; TABLE_WORDS],
-    pub hands: [Handle; HANDS],
+pub(crate) struct Store {
+    pub(crate) size: usize,
+    pub(crate) words: usize,
+    pub(crate) room: usize,
+    pub(crate) used: usize,
+    pub(crate) hand: usize,
+    pub(crate) refused: Option<Refusal>,
+    pub(crate) log: [u8; LOG_BYTES],
+    pub(crate) spare: [u8; LOG_BYTES],
+    pub(crate) table: [u32; TABLE_WORDS],
+    pub(crate) hands: [Handle; HANDS],
 }
 
-// Bytes past the used length mean nothing, so they are not zero.
-pub(crate) fn empty() -> Store {
-    let log = [165u8; LOG_BYTES];
-    let spare = [90u8; LOG_BYTES];
-    let table = [0u32; TABLE_WORDS];
-    let blank = Handle::blank();
-    let hands = [blank; HANDS];
-    Store {
-        size: LOG_BYTES,
-        words: TABLE_WORDS,
-        room: LOG_BYTES,
-        used: 0,
-        hand: 0,
-        number: 0,
-        log,
-        spare,
-        table,
-        hands,
-    }
-}
-
-// The handle in a hand, and the hands with another in it.
-pub(crate) fn held(s: Store) -> Handle {
-    let i = s.hand;
-    if i < HANDS {
-        let hands = s.hands;
-        return hands[i];
-    }
-    Handle::blank()
-}
-
-pub(crate) fn hold(s: Store, h: Handle) -> Store {
-    let i = s.hand;
-    let mut t = s;
-    if i < HANDS {
-        let mut hands = s.hands;
-        hands[i] = h;
-        t.hands = hands;
-    }
-    t
-}
-
-fn same_words(a: &[u32; TABLE_WORDS], b: &[u32; TABLE_WORDS]) -> bool {
-    let mut i: usize = 0;
-    while i < TABLE_WORDS {
-        if a[i] != b[i] {
-            return false;
+impl Store {
+    // Bytes past the used length mean nothing, so they are not zero.
+    pub(crate) fn empty() -> Store {
+        Store {
+            size: LOG_BYTES,
+            words: TABLE_WORDS,
+            room: LOG_BYTES,
+            used: 0,
+            hand: 0,
+            refused: None,
+            log: [165; LOG_BYTES],
+            spare: [90; LOG_BYTES],
+            table: [0; TABLE_WORDS],
+            hands: [Handle::blank(); HANDS],
         }
-        i += 1;
     }
-    true
-}
 
-// Whether log, spare buffer, table and used length are the same, the bytes and words that are not lent too.
-pub(crate) fn same(s: Store, t: Store) -> bool {
-    let a = s.log;
-    let b = t.log;
-    let c = s.spare;
-    let d = t.spare;
-    let v = s.table;
-    let w = t.table;
-    is(&a, &b) && is(&c, &d) && same_words(&v, &w) && s.used == t.used
+    // The handle in the hand; a blank one where there is no such hand.
+    pub(crate) fn held(&self) -> Handle {
+        match self.hands.get(self.hand) {
+            Some(handle) => *handle,
+            None => Handle::blank(),
+        }
+    }
+
+    pub(crate) fn hold(&mut self, handle: Handle) {
+        if let Some(held) = self.hands.get_mut(self.hand) {
+            *held = handle;
+        }
+    }
+
+    // After a compaction the target is the log, and the old log the next target.
+    pub(crate) fn turn(&mut self) {
+        mem::swap(&mut self.log, &mut self.spare);
+        mem::swap(&mut self.size, &mut self.room);
+    }
+
+    // Whether log, spare buffer, table and used length are the same, the bytes and words that are not lent too.
+    pub(crate) fn is_same(&self, other: &Store) -> bool {
+        self.log == other.log
+            && self.spare == other.spare
+            && self.table == other.table
+            && self.used == other.used
+    }
 }

@@ -1,155 +1,129 @@
 // The answers: the number, and what came with it. A refusal's line says whether everything that was lent stayed as it was.
-use bitcask::{Counts, KeyValue, Used};
-use keycode::limits::MAX_OPEN;
+use bitcask::{Counts, Used};
 use keycode::parts::clip;
-use keycode::{Part, Refusal};
-use mvcc::{Handle, Versions};
+use keycode::{Part, Refusal, number_of};
+use mvcc::{Handle, KeyValue, Versions};
+use std::fmt;
+use std::fmt::Write;
+
+// Standard output, by hand: a run is lent a buffer and nothing to print by, and it cannot fail, so a script goes on where nothing is taken.
+#[derive(Clone, Copy)]
+struct Output;
+
+impl Write for Output {
+    fn write_str(&mut self, text: &str) -> fmt::Result {
+        io::write_all(1, text.as_bytes());
+        Ok(())
+    }
+}
 
 pub(crate) fn text(bytes: &[u8]) {
     io::write_all(1, bytes);
 }
 
-fn number(before: &[u8], n: u64) {
-    text(before);
-    io::print_decimal(1, n);
+pub(crate) fn show(value: impl fmt::Display + Drop) {
+    let _ = write!(Output, "{value}");
 }
 
-// A byte that is no plain letter or sign goes out as a backslash and two hex digits.
-fn letter(b: u8) {
-    if 32 <= b && b < 127 {
-        text(&[b]);
-    } else {
-        text(b"\\");
-        io::print_hex(1, b as u64, 2);
-    }
-}
+// Between quotes, a byte that is no plain letter or sign as a backslash and two hex digits.
+#[derive(Clone, Copy)]
+struct Quoted<'a>(&'a [u8]);
 
-fn letters(bytes: &[u8]) {
-    let mut i: usize = 0;
-    while i < bytes.len() {
-        letter(bytes[i]);
-        i += 1;
-    }
-}
-
-// The bytes at a place of the log, between quotes.
-fn part(before: &[u8], log: &[u8], p: Part) {
-    text(before);
-    letters(clip(log, p.at, p.len));
-    text(b"\"");
-}
-
-pub(crate) fn located(
-    log: &[u8],
-    answer: Result<Part, Refusal>,
-    loud: bool,
-    used: Used,
-) -> Result<Used, Refusal> {
-    match answer {
-        Ok(p) => {
-            if loud {
-                part(b": 0, value \"", log, p);
+impl fmt::Display for Quoted<'_> {
+    fn fmt<W: fmt::Write>(&self, f: &mut fmt::Formatter<W>) -> fmt::Result {
+        f.write_str("\"")?;
+        for byte in self.0 {
+            if (32..127).contains(byte) {
+                write!(f, "{}", char::from(*byte))?;
+            } else {
+                write!(f, "\\{byte:02x}")?;
             }
-            Ok(used)
         }
-        Err(r) => Err(r),
+        f.write_str("\"")
     }
 }
 
-pub(crate) fn stepped(
-    log: &[u8],
-    answer: Result<KeyValue, Refusal>,
-    loud: bool,
-    used: Used,
-) -> Result<Used, Refusal> {
-    match answer {
-        Ok(KeyValue { key: k, value: v }) => {
-            if loud {
-                part(b": 0, key \"", log, k);
-                part(b", value \"", log, v);
+// What a call gives with a 0.
+#[derive(Clone, Copy)]
+pub(crate) enum Answer<'a> {
+    Value(&'a [u8]),
+    Pair(&'a [u8], &'a [u8]),
+    Versions(Versions),
+    Counts(Counts),
+    Used(Used),
+}
+
+impl<'a> Answer<'a> {
+    pub(crate) fn value(log: &'a [u8], value: Part) -> Self {
+        Answer::Value(clip(log, value.at, value.len))
+    }
+
+    pub(crate) fn pair(log: &'a [u8], pair: KeyValue) -> Self {
+        let KeyValue { key, value } = pair;
+        Answer::Pair(clip(log, key.at, key.len), clip(log, value.at, value.len))
+    }
+}
+
+impl fmt::Display for Answer<'_> {
+    fn fmt<W: fmt::Write>(&self, f: &mut fmt::Formatter<W>) -> fmt::Result {
+        match self {
+            Answer::Value(value) => write!(f, ": 0, value {}", Quoted(value)),
+            Answer::Pair(key, value) => {
+                write!(f, ": 0, key {}, value {}", Quoted(key), Quoted(value))
             }
-            Ok(used)
-        }
-        Err(r) => Err(r),
-    }
-}
-
-pub(crate) fn stated(
-    answer: Result<Versions, Refusal>,
-    loud: bool,
-    used: Used,
-) -> Result<Used, Refusal> {
-    match answer {
-        Ok(v) => {
-            if loud {
-                number(b": 0, last version ", v.last);
-                number(b", open ", v.open as u64);
+            Answer::Versions(versions) => {
+                write!(
+                    f,
+                    ": 0, last version {}, open {}",
+                    versions.last, versions.open
+                )
             }
-            Ok(used)
-        }
-        Err(r) => Err(r),
-    }
-}
-
-fn counts(c: Counts) {
-    number(b": 0, keys ", c.keys as u64);
-    number(b", size ", c.size as u64);
-    number(b", used ", c.used as u64);
-    number(b", live ", c.live as u64);
-}
-
-pub(crate) fn counted(
-    answer: Result<Counts, Refusal>,
-    loud: bool,
-    used: Used,
-) -> Result<Used, Refusal> {
-    match answer {
-        Ok(c) => {
-            if loud {
-                counts(c);
+            Answer::Counts(counts) => {
+                write!(f, ": 0, keys {}, size {}", counts.keys, counts.size)?;
+                write!(f, ", used {}, live {}", counts.used, counts.live)
             }
-            Ok(used)
+            Answer::Used(used) => write!(f, ": 0, used {}", used.len),
         }
-        Err(r) => Err(r),
     }
 }
 
-fn versions(set: &[u64; MAX_OPEN], count: usize) {
-    let mut i: usize = 0;
-    while i < count {
-        if MAX_OPEN <= i {
-            return;
+// A refusal, and whether everything that was lent stayed as it was.
+#[derive(Clone, Copy)]
+pub(crate) struct Refused {
+    pub(crate) refusal: Refusal,
+    pub(crate) kept: bool,
+}
+
+impl fmt::Display for Refused {
+    fn fmt<W: fmt::Write>(&self, f: &mut fmt::Formatter<W>) -> fmt::Result {
+        let kept = if self.kept {
+            "nothing changed"
+        } else {
+            "CHANGED"
+        };
+        write!(f, ": {}, {kept}", number_of(self.refusal))
+    }
+}
+
+#[derive(Clone, Copy)]
+pub(crate) struct Given(pub(crate) Handle);
+
+impl fmt::Display for Given {
+    fn fmt<W: fmt::Write>(&self, f: &mut fmt::Formatter<W>) -> fmt::Result {
+        let handle = &self.0;
+        let way = if handle.read_only {
+            "read-only"
+        } else {
+            "read-write"
+        };
+        write!(f, ", version {} {way}", handle.version)?;
+        if handle.count == 0 {
+            return f.write_str(", no set");
         }
-        number(b" ", set[i]);
-        i += 1;
-    }
-}
-
-pub(crate) fn handle(h: Handle) {
-    number(b", version ", h.version);
-    if h.read_only {
-        text(b" read-only");
-    } else {
-        text(b" read-write");
-    }
-    if h.count == 0 {
-        text(b", no set");
-    } else {
-        text(b", set");
-        let set = h.set;
-        versions(&set, h.count);
-    }
-}
-
-pub(crate) fn done(used: usize) {
-    number(b": 0, used ", used as u64);
-}
-
-pub(crate) fn refused(n: u64, kept: bool) {
-    number(b": ", n);
-    if kept {
-        text(b", nothing changed");
-    } else {
-        text(b", CHANGED");
+        f.write_str(", set")?;
+        for version in handle.set.iter().take(handle.count) {
+            write!(f, " {version}")?;
+        }
+        Ok(())
     }
 }

@@ -1,171 +1,117 @@
 // The words of a script: a number in decimal, or a string in quotes, in which \hh is one byte, #5 the number 5 in eight bytes, and *65
 // behind the quotes goes on with what stands in them up to 65 bytes.
-ghost use Rattle.std.specs.Prelude.{◌<◌};
+ghost use Rattle.std.specs.Prelude.{◌<◌, ◌≤◌, length};
 
-use keycode::number::put_number;
-
-#[derive(Clone, Copy)]
-pub struct Number {
-    pub value: u64,
-    pub end: usize,
-}
-
-// How far a word is read, and how many bytes it gave.
-#[derive(Clone, Copy)]
-struct Spelled {
-    read: usize,
-    made: usize,
-}
+use keycode::parts::clip;
 
 // Above this a number takes no further digit.
-const TOP: u64 = 1_844_674_407_370_955_161;
+const TOP: u64 = u64::MAX / 10;
 
-const MOST: usize = 8192;
-
-fn wide(b: u8) -> u64 {
-    b as u64
+// The number at the front of a word, and what stands behind it.
+pub(crate) fn number(word: &[u8]) -> (u64, &[u8])
+    ensures { length result.1.now ≤ length word.now }
+{
+    let mut value: u64 = 0;
+    for (i, byte) in word.iter().enumerate() {
+        if TOP < value || !byte.is_ascii_digit() {
+            return (value, &word[i..]);
+        }
+        value = (value * 10).wrapping_add(u64::from(byte.wrapping_sub(b'0')));
+    }
+    (value, &[])
 }
 
-// Indexes here stay far below 2^64.
-pub(crate) fn plus(a: usize, b: usize) -> usize {
-    std::num::wrapping_add_usize(a, b)
-}
-
-pub(crate) fn minus(a: usize, b: usize) -> usize {
-    std::num::wrapping_sub_usize(a, b)
+// A byte that is no digit counts as the letter that it would be.
+fn nibble(byte: u8) -> u8
+    ensures { result < 16 }
+{
+    let zero = if byte.is_ascii_digit() {
+        b'0'
+    } else {
+        b'a' - 10
+    };
+    byte.wrapping_sub(zero) % 16
 }
 
 // 0 past the end.
-pub(crate) fn byte_at(s: &[u8], i: usize) -> u8 {
-    if i < s.len() { s[i] } else { 0 }
-}
-
-// The first place of a byte from index at on; `end` where there is none before.
-pub(crate) fn find(s: &[u8], at: usize, end: usize, byte: u8) -> usize {
-    let mut i = at;
-    while i < end {
-        if byte_at(s, i) == byte {
-            return i;
-        }
-        i += 1;
-    }
-    i
-}
-
-fn is_digit(b: u8) -> bool {
-    48 <= b && b < 58
-}
-
-pub(crate) fn number_at(word: &[u8], at: usize) -> Number {
-    let mut value: u64 = 0;
-    let mut i = at;
-    while i < word.len() {
-        if TOP < value {
-            return Number { value, end: i };
-        }
-        if !is_digit(word[i]) {
-            return Number { value, end: i };
-        }
-        value = std::num::wrapping_add_u64(
-            value * 10,
-            std::num::wrapping_sub_u64(wide(word[i]), 48),
-        );
-        i += 1;
-    }
-    Number { value, end: i }
-}
-
-fn nibble(b: u8) -> u8
-    ensures { result < 16 }
-{
-    if is_digit(b) {
-        return std::num::wrapping_sub_u8(b, 48) % 16;
-    }
-    std::num::wrapping_sub_u8(b, 87) % 16
-}
-
-fn put(out: &mut [u8], at: usize, byte: u8) -> usize {
-    if out.len() <= at {
-        return at;
-    }
-    out[at] = byte;
-    at + 1
-}
-
-fn put_eight(out: &mut [u8], at: usize, v: u64) -> usize {
-    if MOST < at {
-        return at;
-    }
-    if out.len() < at + 8 {
-        return at;
-    }
-    put_number(v, 8, out, at);
-    at + 8
-}
-
-// The first `len` bytes over and over, up to a total.
-fn repeat(out: &mut [u8], len: usize, total: usize) -> usize {
-    let mut o = len;
-    while o < total {
-        if out.len() <= o {
-            return o;
-        }
-        if o < len {
-            return o;
-        }
-        out[o] = out[o - len];
-        o += 1;
-    }
-    total
+fn byte_at(word: &[u8], i: usize) -> u8 {
+    word.get(i).copied().unwrap_or(0)
 }
 
 // The byte of two hex digits.
-fn hex_at(word: &[u8], at: usize) -> u8 {
-    let high = nibble(byte_at(word, at));
-    let low = nibble(byte_at(word, plus(at, 1)));
-    high * 16 + low
+fn hex(word: &[u8]) -> u8 {
+    nibble(byte_at(word, 0)) * 16 + nibble(byte_at(word, 1))
 }
 
-fn spell_next(word: &[u8], at: usize, out: &mut [u8], o: usize) -> Spelled {
-    let next = plus(at, 1);
-    let n = number_at(word, next);
-    match byte_at(word, at) {
-        b'"' => Spelled {
-            read: next,
-            made: o,
-        },
-        b'\\' => Spelled {
-            read: plus(at, 3),
-            made: put(out, o, hex_at(word, next)),
-        },
-        b'#' => Spelled {
-            read: n.end,
-            made: put_eight(out, o, n.value),
-        },
-        b'*' => Spelled {
-            read: n.end,
-            made: repeat(out, o, n.value as usize),
-        },
-        b => Spelled {
-            read: next,
-            made: put(out, o, b),
-        },
-    }
+// The bytes of a word, in a lent buffer; those that find no room are left out. By hand: a script runs without memory of its own, and a
+// word that is cut short by *0 and goes on by *65 takes up what stands in the buffer.
+#[derive(Drop)]
+struct Spelling<'a> {
+    out: &'a mut [u8],
+    len: usize,
 }
 
-// The bytes of a word, at the front of a lent buffer; how many is answered. Each turn reads a byte or more.
-pub(crate) fn spell(word: &[u8], out: &mut [u8]) -> usize {
-    let mut at: usize = 0;
-    let mut o: usize = 0;
-    let mut turns = word.len();
-    while 0 < turns {
-        if word.len() <= at {
-            return o;
+impl Spelling<'_> {
+    fn push(&mut self, byte: u8) {
+        if let Some(place) = self.out.get_mut(self.len) {
+            *place = byte;
+            self.len += 1;
         }
-        let next = spell_next(word, at, out, o);
-        at = next.read;
-        o = next.made;
-        turns -= 1;
     }
-    o
+
+    fn push_number(&mut self, value: u64) {
+        let free = self.out.get_mut(self.len..).unwrap_or(&mut []);
+        if let Some(place) = free.first_chunk_mut() {
+            *place = value.to_be_bytes();
+            self.len += 8;
+        }
+    }
+
+    // What is there over and over, up to a total.
+    fn repeat(&mut self, total: usize) {
+        let period = self.len;
+        let end = total.min(self.out.len());
+        for i in period..end {
+            self.out[i] = self.out[i - period];
+        }
+        self.len = end;
+    }
+
+    // What is left of the word.
+    fn take<'w>(&mut self, first: u8, behind: &'w [u8]) -> &'w [u8]
+        ensures { length result.now ≤ length behind.now }
+    {
+        match first {
+            b'"' => behind,
+            b'\\' => {
+                self.push(hex(behind));
+                behind.get(2..).unwrap_or(&[])
+            }
+            b'#' => {
+                let (value, rest) = number(behind);
+                self.push_number(value);
+                rest
+            }
+            b'*' => {
+                let (total, rest) = number(behind);
+                self.repeat(total as usize);
+                rest
+            }
+            byte => {
+                self.push(byte);
+                behind
+            }
+        }
+    }
+}
+
+// The bytes of a word, at the front of a lent buffer.
+pub(crate) fn spell<'a>(word: &[u8], out: &'a mut [u8]) -> &'a [u8] {
+    let mut spelling = Spelling { out, len: 0 };
+    let mut rest = word;
+    while let Some((first, behind)) = rest.split_first() {
+        rest = spelling.take(*first, behind);
+    }
+    let Spelling { out, len } = spelling;
+    clip(out, 0, len)
 }

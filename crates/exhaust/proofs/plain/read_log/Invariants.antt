@@ -1,8 +1,6 @@
--- `read_log` is safe and ends. The measure is how many turns are left.
+-- `read_log` is safe and ends. The measure is how much of the log is left.
+use Rattle.std.proofs.Common.{◌-◌, length}
 use Rattle.exhaust.proofs.plain.read_log.Given as goal
 
-abbrev pub invariant-loop-turns : goal.invariant-loop-turns
-invariant-loop-turns l = Unit {0}
-
-abbrev pub decreases-loop-turns : goal.decreases-loop-turns
-decreases-loop-turns l = l.turns
+abbrev pub decreases-loop-entry : goal.decreases-loop-entry
+decreases-loop-entry l = length l.log - l.at

@@ -1,8 +1,6 @@
--- `run_calls` is safe and ends. The measure is how many turns are left.
+-- `run_calls` is safe and ends. The measure is how much of the line is left.
+use Rattle.std.proofs.Common.{length}
 use Rattle.script.proofs.lines.run_calls.Given as goal
 
-abbrev pub invariant-loop-turns : goal.invariant-loop-turns
-invariant-loop-turns l = Unit {0}
-
-abbrev pub decreases-loop-turns : goal.decreases-loop-turns
-decreases-loop-turns l = l.turns
+abbrev pub decreases-loop-asked : goal.decreases-loop-asked
+decreases-loop-asked l = length l.rest

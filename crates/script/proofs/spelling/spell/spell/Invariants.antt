@@ -1,9 +1,6 @@
--- `spell` is safe and ends. The buffer keeps its length; the measure is how many turns are left.
-use Rattle.std.proofs.Common.{◌≡◌, length}
+-- `spell` is safe and ends. The measure is how much of the word is left.
+use Rattle.std.proofs.Common.{length}
 use Rattle.script.proofs.spelling.spell.spell.Given as goal
 
-abbrev pub invariant-loop-turns : goal.invariant-loop-turns
-invariant-loop-turns l = length l.out ≡ length l.initial.out
-
-abbrev pub decreases-loop-turns : goal.decreases-loop-turns
-decreases-loop-turns l = l.turns
+abbrev pub decreases-loop-first : goal.decreases-loop-first
+decreases-loop-first l = length l.rest

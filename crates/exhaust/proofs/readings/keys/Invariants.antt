@@ -1,9 +1,0 @@
--- `keys` is safe and ends. The measure is how many words are left.
-use Rattle.std.proofs.Common.{◌-◌, length}
-use Rattle.exhaust.proofs.readings.keys.Given as goal
-
-abbrev pub invariant-loop-i : goal.invariant-loop-i
-invariant-loop-i l = Unit {0}
-
-abbrev pub decreases-loop-i : goal.decreases-loop-i
-decreases-loop-i l = length l.table - l.i

@@ -1,2 +1,0 @@
--- The law of the parts that are lent.
-pub mod StoreLaws
