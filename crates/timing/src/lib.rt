@@ -118,7 +118,8 @@ fn run(request: Request, store: &mut Store<'_>, target: &mut [u8]) -> u64 {
 
 // Calls 1 to 6 are opening, get, full scan, set, set with a commit at the end, and compaction; 7 and 8 are get and full scan by a
 // transaction that begins after `others` that stay open. `skip` bytes of a key's 56 are left out, of which 48 are the same in every key;
-// `absent` other than 0 asks for keys that are not there. A sum over the answers, which every side of the bench must reach.
+// `absent` other than 0 asks for keys that are not there. A sum over the answers, which every side of the bench must reach. By
+// hand: whoever calls this over C gives the call and the flag as numbers, and the log's used length beside the log.
 #[unsafe(no_mangle)]
 pub extern "C" fn tjaldrum_timing(
     call: u64,

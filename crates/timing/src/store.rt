@@ -20,12 +20,12 @@ fn weight(value: &[u8]) -> u64 {
     }
 }
 
-impl Store<'_> {
-    // The used length that an answer tells, 0 where it is a refusal.
-    pub(crate) fn told(answer: Result<Used, Refusal>) -> u64 {
-        answer.map_or(0, |used| used.len as u64)
-    }
+// The used length that an answer tells, 0 where it is a refusal.
+fn told(answer: Result<Used, Refusal>) -> u64 {
+    answer.map_or(0, |used| used.len as u64)
+}
 
+impl Store<'_> {
     // A call that was refused leaves the used length that was before it.
     fn keep(&mut self, answer: Result<Used, Refusal>) {
         self.used = answer.unwrap_or(self.used);
@@ -34,7 +34,7 @@ impl Store<'_> {
     pub(crate) fn open(&mut self) -> u64 {
         let log = &mut *self.log;
         let table = &mut *self.table;
-        Self::told(bitcask::open(log, self.used, table))
+        told(bitcask::open(log, self.used, table))
     }
 
     pub(crate) fn get(&self, handle: Handle, keys: Keys, n: u64) -> u64 {
@@ -109,7 +109,7 @@ impl Store<'_> {
     }
 
     pub(crate) fn commit(&mut self, handle: Handle) -> u64 {
-        Self::told(mvcc::commit(self.log, self.used, self.table, handle))
+        told(mvcc::commit(self.log, self.used, self.table, handle))
     }
 
     // There and back: two compactions.
