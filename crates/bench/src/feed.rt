@@ -3,61 +3,26 @@
 ghost use Rattle.std.specs.Prelude.{◌≡◌, ◌<◌, ◌≤◌, length, take, IfOk};
 ghost use Rattle.std.specs.Io.KnownBytes.{Consumes, IsAtEnd};
 
-use bitcask::Used;
-use keycode::parts::clip;
-use std::io;
+use crate::store::Store;
 use std::io::Read;
+use std::{fmt, io};
 use tape::format::layout::RECORD;
-use tape::take;
 
-// The store's used length, which buffer is its log, and whether there is more to read.
-#[derive(Clone, Copy)]
-pub struct Place {
-    pub used: usize,
-    pub other: bool,
-    pub going: bool,
+// Why a run did not answer its whole tape.
+#[derive(Clone, Copy, Debug, PartialEq, Eq)]
+pub(crate) enum Fault {
+    Unread,
+    Refused,
+    Unwritten,
 }
 
-fn stopped(p: Place) -> Place {
-    Place {
-        used: p.used,
-        other: p.other,
-        going: false,
-    }
-}
-
-// The end of a run that did not answer its whole tape, on standard error, in a line of its own: ./run goes by that, the program ends with 0
-// all the same.
-fn told(rt: &impl Eprint, p: Place, line: &str) -> Place {
-    let _ = rt.eprintln(line);
-    stopped(p)
-}
-
-// One record, and its answers at once.
-fn answer<P: Print + Eprint>(
-    rt: &P,
-    first: &mut [u8],
-    second: &mut [u8],
-    table: &mut [u32],
-    slots: &mut [u64],
-    bytes: &[u8],
-    answers: &mut [u8],
-    p: Place,
-) -> Place {
-    let used = Used { len: p.used };
-    match take(first, second, table, slots, used, p.other, bytes, answers) {
-        Ok(t) => {
-            let n = Place {
-                used: t.used.len,
-                other: t.other,
-                going: bytes.len() == RECORD,
-            };
-            match rt.write_all(clip(answers, 0, t.len)) {
-                Ok(_) => n,
-                Err(_) => told(rt, n, "bench: an answer was not written"),
-            }
+impl fmt::Display for Fault {
+    fn fmt<W: fmt::Write>(&self, f: &mut fmt::Formatter<W>) -> fmt::Result {
+        match self {
+            Fault::Unread => write!(f, "the tape could not be read"),
+            Fault::Refused => write!(f, "a record was refused"),
+            Fault::Unwritten => write!(f, "an answer was not written"),
         }
-        Err(_) => told(rt, p, "bench: a record was refused"),
     }
 }
 
@@ -68,6 +33,7 @@ fn fill<T: Read>(tape: &mut T, bytes: &mut [u8]) -> io::Result<usize>
     ensures consumes { IfOk result (λ n. Consumes (T.remaining tape.old) (T.remaining tape.new) (take n bytes.new)) }
     ensures end { IfOk result (λ n. n < length bytes.new → IsAtEnd (T.remaining tape.new)) }
 {
+    // By hand: of a tape that ends in mid-record `read_exact` does not say how far it came, and `read_to_end` wants a heap.
     let mut n = 0;
     while n < bytes.len() {
         let more = tape.read(&mut bytes[n..])?;
@@ -85,58 +51,27 @@ fn over<T: Read>(tape: &mut T) -> bool {
     matches!(tape.read(&mut one), Ok(0))
 }
 
-fn turn<T: Read, P: Print + Eprint>(
-    tape: &mut T,
-    rt: &P,
-    first: &mut [u8],
-    second: &mut [u8],
-    table: &mut [u32],
-    slots: &mut [u64],
-    record: &mut [u8],
-    answers: &mut [u8],
-    p: Place,
-) -> Place {
-    let n = match fill(tape, record) {
-        Ok(n) => n,
-        Err(_) => return told(rt, p, "bench: the tape could not be read"),
-    };
-    if n < RECORD && !over(tape) {
-        return told(rt, p, "bench: the tape could not be read");
+// The next record; a short one, or none, at the tape's end alone.
+fn next_record<'a, T: Read>(tape: &mut T, bytes: &'a mut [u8]) -> Result<&'a [u8], Fault> {
+    let n = fill(tape, bytes).map_err(|_| Fault::Unread)?;
+    if n < bytes.len() && !over(tape) {
+        return Err(Fault::Unread);
     }
-    if n == 0 {
-        return stopped(p);
-    }
-    answer(
-        rt,
-        first,
-        second,
-        table,
-        slots,
-        clip(record, 0, n),
-        answers,
-        p,
-    )
+    Ok(&bytes[..n])
 }
 
-// A proved loop has to end, and nothing says that a tape does: so it counts its turns, down from a number that no run uses up.
-pub fn run<T: Read, P: Print + Eprint>(
-    tape: &mut T,
-    rt: &P,
-    first: &mut [u8],
-    second: &mut [u8],
-    table: &mut [u32],
-    slots: &mut [u64],
-    record: &mut [u8],
-    answers: &mut [u8],
-) {
-    let mut p = Place {
-        used: 0,
-        other: false,
-        going: true,
-    };
-    let mut turns = u64::MAX;
-    while 0 < turns && p.going {
-        p = turn(tape, rt, first, second, table, slots, record, answers, p);
-        turns -= 1;
+// A proved loop has to end, and nothing says that a tape does: it has as many turns as no run uses up.
+pub(crate) fn run<T: Read, P: Print>(tape: &mut T, rt: &P, store: &mut Store) -> Result<(), Fault> {
+    let mut bytes = [0; RECORD];
+    for _ in 0..u64::MAX {
+        let record = next_record(tape, &mut bytes)?;
+        if !record.is_empty() {
+            let answers = store.answer(record).map_err(|_| Fault::Refused)?;
+            rt.write_all(answers).map_err(|_| Fault::Unwritten)?;
+        }
+        if record.len() < RECORD {
+            break;
+        }
     }
+    Ok(())
 }

@@ -1,5 +1,5 @@
-// Typed keys, run: requests in lines on standard input, each written again with its answer. The stored input has the vectors of document
-// 02's W5; oracle/run writes its own, of rows and keys that it makes from seeds.
+// Typed keys, run: requests in lines on standard input, each written again with its answer. The stored input has vectors, below lines that
+// say what they show; oracle/run writes its own, of rows and keys that it makes from seeds.
 //
 //   encode ROOM FIELD..   into a buffer of ROOM bytes, each aa before: the number, the length, and the whole buffer
 //   decode KEY KIND..     the number, how many fields, and the fields
@@ -11,34 +11,36 @@
 #![tactic(auto)]
 
 mod answers;
+mod digits;
 mod fields;
-mod hex;
 mod lines;
 mod requests;
 
-use lines::{Input, read_line};
+use lines::{LONGEST, next_line};
 use requests::answer_line;
+use std::alloc::Global;
+use std::io;
+use std::io::{BufRead, BufReader};
 
-// A proved loop has to end, and nothing says that an input does: it counts its turns down from a number that no run uses up.
-fn run(block: &mut [u8], line: &mut [u8], texts: &mut [u8], out: &mut [u8], answer: &mut [u8]) {
-    let mut input = Input { at: 0, have: 0 };
-    let mut turns = u64::MAX;
-    while 0 < turns {
-        let read = read_line(block, input, line);
-        if line.len() <= read.len {
-            return;
-        }
-        input = read.input;
-        answer_line(line, read.len, texts, out, answer);
-        turns -= 1;
+// Blocks of this length are read: a call of the system for each byte would take most of a long run's time.
+const BLOCK: usize = 65536;
+
+// A proved loop has to end, and nothing says that an input does: it has as many turns as no run uses up.
+fn run<R: BufRead, P: Print>(alloc: Global, input: &mut R, rt: &P) -> io::Result<()> {
+    let mut buffer = Vec::with_capacity(alloc, LONGEST)?;
+    for _ in 0..u64::MAX {
+        let Some(line) = next_line(input, &mut buffer) else {
+            break;
+        };
+        let answer = answer_line(alloc, line)?;
+        // An answer that is not written does not keep the next from being tried.
+        let _ = rt.write_all(&answer);
     }
+    Ok(())
 }
 
-fn main() {
-    let mut block = [0u8; 65536];
-    let mut line = [0u8; 8192];
-    let mut texts = [0u8; 4096];
-    let mut out = [0u8; 4096];
-    let mut answer = [0u8; 16384];
-    run(&mut block, &mut line, &mut texts, &mut out, &mut answer);
+fn main(rt: HostRuntime) -> io::Result<()> {
+    let alloc = rt.alloc();
+    let mut input = BufReader::with_capacity(alloc, BLOCK, rt.reader())?;
+    run(alloc, &mut input, &rt)
 }

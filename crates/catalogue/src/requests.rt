@@ -1,94 +1,64 @@
 // A line of standard input, and what it asks of the two calls.
-use crate::answers::{put_buffer, put_denied, put_done, put_row};
+use crate::answers::{Outcome, Spelt};
+use crate::digits::{decimal, unhex};
 use crate::fields::{kinds_of, row_of};
-use crate::hex::{byte_at, decimal, least, minus, plus, put, put_text, unhex};
-use crate::lines::word_end;
-use codecs::Denial;
-use keycode::parts::clip;
-use rows::{Kinds, Row, decode_row, encode_row};
+use crate::lines::words_of;
+use rows::{decode_row, encode_row};
+use std::alloc::{AllocError, Global};
 
-// The bytes of a buffer before a call, so that what the call leaves can be told.
-fn mark(out: &mut [u8]) {
-    let mut i: usize = 0;
-    while i < out.len() {
-        out[i] = 0xaa;
-        i += 1;
+// The longest buffer into which is encoded.
+const ROOM: usize = 4096;
+
+// What a buffer holds before a call, so that what the call leaves can be told.
+const MARK: u8 = 0xaa;
+
+// The most bytes of an answer, its line included; what has no room is dropped.
+const MOST: usize = 16384;
+
+fn encode(alloc: Global, room: &[u8], fields: &[&[u8]]) -> Result<String, AllocError> {
+    let mut texts = Vec::new(alloc);
+    let row = row_of(alloc, fields, &mut texts)?;
+    let mut buffer = vec![in alloc; MARK; decimal(room).min(ROOM)]?;
+    let outcome = Outcome(encode_row(row, &texts, &mut buffer));
+    if buffer.is_empty() {
+        return format!(in alloc; "{outcome} -");
     }
+    let bytes = hex::encode(alloc, buffer)?;
+    format!(in alloc; "{outcome} {bytes}")
 }
 
-fn put_length(answer: &mut [u8], at: usize, r: Result<usize, Denial>) -> usize {
-    match r {
-        Ok(n) => put_done(answer, at, n),
-        Err(d) => put_denied(answer, at, d, 0),
+fn decode(alloc: Global, digits: &[u8], kinds: &[&[u8]]) -> Result<String, AllocError> {
+    let mut key = Vec::new(alloc);
+    if !digits.starts_with(b"-") {
+        unhex(digits, &mut key)?;
     }
-}
-
-fn encode_into(row: Row, texts: &[u8], out: &mut [u8], answer: &mut [u8], at: usize) -> usize {
-    mark(out);
-    let r = encode_row(row, texts, out);
-    let o = put_length(answer, at, r);
-    put_buffer(answer, o, out)
-}
-
-// A row that is refused has no fields.
-fn put_check(answer: &mut [u8], at: usize, check: Result<(), Denial>, n: usize) -> usize {
-    match check {
-        Ok(()) => put_done(answer, at, n),
-        Err(d) => put_denied(answer, at, d, n),
-    }
-}
-
-fn decode_from(kinds: Kinds, key: &[u8], answer: &mut [u8], at: usize) -> usize {
-    let read = decode_row(kinds, key);
+    let read = decode_row(kinds_of(alloc, kinds)?, &key);
     let row = read.row;
-    let check = read.check;
-    let o = put_check(answer, at, check, row.len);
-    put_row(answer, o, row)
+    let mut answer = format!(in alloc; "{}", Outcome(read.check.map(|()| row.len)))?;
+    for cell in row.cells.iter().take(row.len) {
+        write!(answer, "{}", Spelt(cell.field))?;
+    }
+    Ok(answer)
 }
 
-fn key_of(word: &[u8], texts: &mut [u8]) -> usize {
-    if byte_at(word, 0) == b'-' {
-        return 0;
+// What a request is answered. Its first letter says which it is; a line that is none has no answer.
+fn answer(alloc: Global, line: &[u8]) -> Result<String, AllocError> {
+    let words = words_of(alloc, line)?;
+    let operand = words.get(1).copied().unwrap_or(b"");
+    let others = words.get(2..).unwrap_or(&[]);
+    match line {
+        [b'e', ..] => encode(alloc, operand, others),
+        [b'd', ..] => decode(alloc, operand, others),
+        _ => Ok(String::new(alloc)),
     }
-    unhex(word, texts, 0)
 }
 
-fn answer_words(
-    words: &[u8],
-    texts: &mut [u8],
-    out: &mut [u8],
-    answer: &mut [u8],
-    at: usize,
-) -> usize {
-    let first = byte_at(words, 0);
-    let a = plus(word_end(words, 0), 1);
-    let b = word_end(words, a);
-    let word = clip(words, a, minus(b, a));
-    if first == b'e' {
-        let room = least(decimal(word), out.len());
-        let asked = row_of(words, plus(b, 1), texts);
-        let row = asked.row;
-        let used = asked.used;
-        return encode_into(row, clip(texts, 0, used), &mut out[..room], answer, at);
-    }
-    if first == b'd' {
-        let used = key_of(word, texts);
-        let kinds = kinds_of(words, plus(b, 1));
-        return decode_from(kinds, clip(texts, 0, used), answer, at);
-    }
-    at
-}
-
-pub(crate) fn answer_line(
-    line: &[u8],
-    len: usize,
-    texts: &mut [u8],
-    out: &mut [u8],
-    answer: &mut [u8],
-) {
-    let words = clip(line, 0, len);
-    let o = put_text(answer, 0, words);
-    let p = answer_words(words, texts, out, answer, o);
-    let end = put(answer, p, 10);
-    io::write_all(1, clip(answer, 0, end));
+// A line with its answer behind it.
+pub(crate) fn answer_line(alloc: Global, line: &[u8]) -> Result<Vec<u8>, AllocError> {
+    let mut text = Vec::new(alloc);
+    text.extend_from_slice(line)?;
+    text.extend_from_slice(answer(alloc, line)?.as_bytes())?;
+    text.push(b'\n')?;
+    text.truncate(MOST);
+    Ok(text)
 }

@@ -3,58 +3,123 @@
 #![tactic(auto)]
 
 mod keys;
-mod reads;
-mod start;
-mod writes;
+mod store;
 
 use crate::keys::Keys;
+use crate::store::Store;
 use bitcask::Used;
 use mvcc::Handle;
 
+// What is timed. `GetBegun` and `ScanBegun` look by a transaction that begins first.
+#[derive(Clone, Copy, Debug, PartialEq, Eq)]
+enum Call {
+    Open,
+    Get,
+    Scan,
+    Set,
+    SetCommitted,
+    Compact,
+    GetBegun,
+    ScanBegun,
+}
+
+// Any number but the first seven is the last call.
+impl From<u64> for Call {
+    fn from(number: u64) -> Call {
+        match number {
+            1 => Call::Open,
+            2 => Call::Get,
+            3 => Call::Scan,
+            4 => Call::Set,
+            5 => Call::SetCommitted,
+            6 => Call::Compact,
+            7 => Call::GetBegun,
+            _ => Call::ScanBegun,
+        }
+    }
+}
+
 // What is asked: the call, how often, on which keys, and how many transactions are open before it.
-#[derive(Clone, Copy)]
+#[derive(Clone, Copy, Debug, PartialEq, Eq)]
 struct Request {
-    call: u64,
+    call: Call,
     times: u64,
     others: u64,
     keys: Keys,
 }
 
-// A get or a full scan, by a handle.
-fn look(r: Request, call: u64, log: &[u8], used: Used, table: &[u32], h: Handle) -> u64 {
-    let keys = r.keys;
-    match call {
-        2 => reads::gets(log, used, table, h, keys, r.times),
-        _ => reads::scans(log, used, table, h, r.times),
+// The sum of what a call answers, over so many times.
+fn total<F: FnMut() -> u64>(times: u64, mut call: F) -> u64
+    requires { F.IsAlwaysCallable call }
+{
+    let mut sum: u64 = 0;
+    for _ in 0..times {
+        sum = sum.wrapping_add(call());
     }
+    sum
 }
 
-// The same by the handle of a transaction that begins first.
-fn look_begun(r: Request, call: u64, log: &mut [u8], used: Used, table: &mut [u32]) -> u64 {
-    let s = start::begin_after(log, used, table, r.others);
-    let u = s.used;
-    let h = s.handle;
-    look(r, call, log, u, table, h)
+// A key each, in turn.
+fn gets(store: &Store<'_>, handle: Handle, keys: Keys, times: u64) -> u64 {
+    let mut n = 0;
+    total(times, || {
+        let found = store.get(handle, keys, n);
+        n = keys.next(n);
+        found
+    })
 }
 
-fn run(r: Request, log: &mut [u8], used: Used, table: &mut [u32], target: &mut [u8]) -> u64 {
-    let call = r.call;
-    let keys = r.keys;
+fn scans(store: &Store<'_>, handle: Handle, times: u64) -> u64 {
+    total(times, || store.scan(handle))
+}
+
+// As many sets in one transaction: a key each, in turn.
+fn sets(store: &mut Store<'_>, keys: Keys, times: u64) -> Handle {
+    let handle = store.begin_after(0);
+    let mut n = 0;
+    for _ in 0..times {
+        store.set(handle, keys, n);
+        n = keys.next(n);
+    }
+    handle
+}
+
+fn run(request: Request, store: &mut Store<'_>, target: &mut [u8]) -> u64 {
+    let Request {
+        call,
+        times,
+        others,
+        keys,
+    } = request;
+    let alone = Handle::fresh(2, true);
     match call {
-        1 => reads::opens(log, used, table, r.times),
-        2 => look(r, 2, log, used, table, Handle::fresh(2, true)),
-        3 => look(r, 3, log, used, table, Handle::fresh(2, true)),
-        4 => writes::sets(log, used, table, keys, r.times),
-        5 => writes::sets_committed(log, used, table, keys, r.times),
-        6 => writes::compactions(log, used, table, target, r.times),
-        7 => look_begun(r, 2, log, used, table),
-        _ => look_begun(r, 3, log, used, table),
+        Call::Open => total(times, || store.open()),
+        Call::Get => gets(store, alone, keys, times),
+        Call::Scan => scans(store, alone, times),
+        Call::Set => {
+            sets(store, keys, times);
+            store.used.len as u64
+        }
+        Call::SetCommitted => {
+            let handle = sets(store, keys, times);
+            store.commit(handle)
+        }
+        Call::Compact => total(times, || store.compact_twice(target)),
+        Call::GetBegun => {
+            let handle = store.begin_after(others);
+            gets(store, handle, keys, times)
+        }
+        Call::ScanBegun => {
+            let handle = store.begin_after(others);
+            scans(store, handle, times)
+        }
     }
 }
 
 // Calls 1 to 6 are opening, get, full scan, set, set with a commit at the end, and compaction; 7 and 8 are get and full scan by a
 // transaction that begins after `others` that stay open. `skip` bytes of a key's 56 are left out, of which 48 are the same in every key;
-// `absent` other than 0 asks for keys that are not there. A sum over the answers, which every side of the bench must reach.
+// `absent` other than 0 asks for keys that are not there. A sum over the answers, which every side of the bench must reach. By
+// hand: whoever calls this over C gives the call and the flag as numbers, and the log's used length beside the log.
 #[unsafe(no_mangle)]
 pub extern "C" fn tjaldrum_timing(
     call: u64,
@@ -71,16 +136,16 @@ pub extern "C" fn tjaldrum_timing(
     let keys = Keys {
         count,
         skip,
-        absent,
+        absent: absent != 0,
     };
-    let r = Request {
-        call,
+    let request = Request {
+        call: Call::from(call),
         times,
         others,
         keys,
     };
-    match bitcask::open(log, Used { len }, table) {
-        Ok(used) => run(r, log, used, table, target),
-        Err(_) => 0,
-    }
+    let Ok(used) = bitcask::open(log, Used { len }, table) else {
+        return 0;
+    };
+    run(request, &mut Store { log, table, used }, target)
 }

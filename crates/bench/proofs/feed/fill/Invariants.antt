@@ -4,7 +4,11 @@ use Rattle.std.specs.Io.KnownBytes.{Consumes}
 use Rattle.bench.proofs.feed.fill.Given as goal
 
 abbrev pub invariant-loop-n : goal.invariant-loop-n
-invariant-loop-n g l = (length l.bytes ≡ length l.initial.bytes) × (l.n ≤ length l.bytes) × Consumes (g.T.Read.remaining l.initial.tape) (g.T.Read.remaining l.tape) (take l.n l.bytes)
+invariant-loop-n g l = record {
+  keeps_length : length l.bytes ≡ length l.initial.bytes;
+  within : l.n ≤ length l.bytes;
+  consumed : Consumes (g.T.Read.remaining l.initial.tape) (g.T.Read.remaining l.tape) (take l.n l.bytes);
+}
 
 abbrev pub decreases-loop-n : goal.decreases-loop-n
 decreases-loop-n g l = length l.initial.bytes - l.n

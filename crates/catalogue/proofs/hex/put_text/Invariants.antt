@@ -1,9 +1,0 @@
--- `put_text` is safe and ends. The buffer keeps its length; the measure is how many bytes are left.
-use Rattle.std.proofs.Common.{◌≡◌, ◌-◌, length}
-use Rattle.catalogue.proofs.hex.put_text.Given as goal
-
-abbrev pub invariant-loop-i : goal.invariant-loop-i
-invariant-loop-i l = length l.out ≡ length l.initial.out
-
-abbrev pub decreases-loop-i : goal.decreases-loop-i
-decreases-loop-i l = length l.bytes - l.i

@@ -1,0 +1,45 @@
+// Numbers and bytes in hex digits. A byte that is no digit counts as one all the same: the requests are our own.
+ghost use Rattle.std.specs.Prelude.{◌<◌};
+
+use std::alloc::AllocError;
+
+fn nibble(digit: u8) -> u8
+    ensures { result < 16 }
+{
+    let above = if digit <= b'9' {
+        digit.wrapping_sub(b'0')
+    } else {
+        digit.wrapping_sub(b'a' - 10)
+    };
+    above % 16
+}
+
+// The byte of two digits; one alone is the first of them.
+fn byte_of(pair: &[u8]) -> u8 {
+    match pair {
+        [high, low, ..] => nibble(*high) * 16 + nibble(*low),
+        [high] => nibble(*high) * 16,
+        [] => 0,
+    }
+}
+
+// The number of a word's digits, the last sixteen of them.
+pub(crate) fn number(word: &[u8]) -> u64 {
+    word.iter().fold(0, |value: u64, digit| {
+        value
+            .wrapping_mul(16)
+            .wrapping_add(u64::from(nibble(*digit)))
+    })
+}
+
+// The number of a word's decimal digits, about the last seven of them.
+pub(crate) fn decimal(word: &[u8]) -> usize {
+    word.iter().fold(0, |value: usize, digit| {
+        value % 1_000_000 * 10 + usize::from(nibble(*digit))
+    })
+}
+
+// The bytes of a word's digits, put behind others.
+pub(crate) fn unhex(word: &[u8], bytes: &mut Vec<u8>) -> Result<(), AllocError> {
+    bytes.extend(word.chunks(2).map(byte_of))
+}

@@ -1,8 +1,0 @@
-use Rattle.std.proofs.Common.{refl, arith}
-use Rattle.timing.proofs.writes.compactions.Goals as goal
-
-pub loop-i-init : goal.loop-i-init
-loop-i-init c = (refl, refl, refl)
-
-pub loop-i-preserved : goal.loop-i-preserved
-loop-i-preserved c = (omega arith, omega arith, omega arith)

@@ -1,9 +1,0 @@
--- `compactions` is safe and ends. The measure is how many turns are left.
-use Rattle.std.proofs.Common.{◌≡◌, ◌-◌, length}
-use Rattle.timing.proofs.writes.compactions.Given as goal
-
-abbrev pub invariant-loop-i : goal.invariant-loop-i
-invariant-loop-i l = (length l.log ≡ length l.initial.log) × (length l.table ≡ length l.initial.table) × (length l.target ≡ length l.initial.target)
-
-abbrev pub decreases-loop-i : goal.decreases-loop-i
-decreases-loop-i l = l.times - l.i

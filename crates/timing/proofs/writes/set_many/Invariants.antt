@@ -1,9 +1,0 @@
--- `set_many` is safe and ends. The measure is how many sets are left.
-use Rattle.std.proofs.Common.{◌≡◌, ◌-◌, length}
-use Rattle.timing.proofs.writes.set_many.Given as goal
-
-abbrev pub invariant-loop-i : goal.invariant-loop-i
-invariant-loop-i l = (length l.log ≡ length l.initial.log) × (length l.table ≡ length l.initial.table)
-
-abbrev pub decreases-loop-i : goal.decreases-loop-i
-decreases-loop-i l = l.times - l.i
