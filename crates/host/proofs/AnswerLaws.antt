@@ -1,24 +1,23 @@
 -- Laws of answers in one number: every length is below the half, so that both halves can be read; and what the exported functions on keys
 -- answer and leave. Assumes nothing.
 use Prim.Native.Nat.{ℕ, ◌+◌, ◌*◌, ◌≤◌, ◌<◌}
-use mathlib.Core.Path.{◌≡◌, refl, sym, ap, ◌∙◌}
+use mathlib.Core.Path.{◌≡◌, refl, ap, ◌∙◌}
 use mathlib.Core.Bool.{Bool, true, false}
 use mathlib.Core.List.{List, ◌∷◌, ◌++◌, append_assoc}
 use native.Mathlib.Omega.{arith}
 use lib.Dec.{leb}
 use lib.ListN.{length, set, length-append}
-use borrow.Author.Tests.{le-leb, lt-leb}
+use borrow.Author.Tests.{le-leb}
 use Rattle.std.specs.Prelude.{Result, ℕ, Ok, Err}
 use Rattle.keycode.specs.Tests.{pick}
 use Rattle.keycode.specs.Limits.{max_key}
 use Rattle.keycode.specs.Number.{be}
 use Rattle.keycode.specs.Buffer.{put}
-use Rattle.keycode.specs.Refusals.{number_of}
 use Rattle.keycode.specs.Strings.{unescaped, plain_length}
 use Rattle.keycode.specs.Promises.{Writes, fitted, into_room}
 use Rattle.keycode.specs.declared.refusal.Refusal.{Refusal}
 use Rattle.keycode.specs.declared.refusal.Refusal.TheVariants.{BadRequest}
-use Rattle.keycode.proofs.BufferLaws.{refused_stays, put_front, put-put}
+use Rattle.keycode.proofs.BufferLaws.{put_front, put-put}
 use Rattle.keycode.proofs.NumberLaws.{length-be}
 use Rattle.keycode.proofs.StringLaws.{body_bound, plain_done}
 use Rattle.keycode.specs.key.Keys.{Fields, next_version, txn_active, txn_active_snapshot, txn_write, version, unversioned, encode, user_key, decode_why, forget}
@@ -26,7 +25,7 @@ use Rattle.keycode.specs.encode.Promises.{encode_answer}
 use Rattle.keycode.specs.declared.key.Key.{Key}
 use Rattle.keycode.proofs.encode.EncodeLaws.{measure_says, two_put, version-length, write_length, unversioned-length}
 use Rattle.host.specs.Answers.{half, length_of, packed, Tells}
-use Rattle.host.specs.Promises.{Gives, Encodes, Unescapes, Decodes, field_count, split, laid_out, split_bytes}
+use Rattle.host.specs.Promises.{Gives, Encodes, Unescapes, DecodesInto, field_count, split, laid_out, split_bytes}
 use Rattle.host.specs.declared.coding.Split.{Split}
 
 -- ---- the halves
@@ -34,12 +33,6 @@ use Rattle.host.specs.declared.coding.Split.{Split}
 pub packed_tells : (a : Result ℕ Refusal) → length_of a < half → Tells a (packed a)
 packed_tells (Ok n) h = record { number = omega arith; value = omega arith }
 packed_tells (Err r) h = record { number = omega arith; value = omega arith }
-
-pub told_done : (n : ℕ) {a : Result ℕ Refusal} → a ≡ Ok n → n ≡ packed a
-told_done n e = rw e (omega arith)
-
-pub told_refused : (w : Refusal) {n : ℕ} {a : Result ℕ Refusal} → a ≡ Err w → n ≡ number_of w → n * half ≡ packed a
-told_refused w e q = rw (e, q) (omega arith)
 
 -- what a call wrote, with its answer packed
 gives : (a : Result ℕ Refusal) (e d : List ℕ) {x : Result ℕ Refusal} {r : ℕ} {out : List ℕ} → length_of a < half → Writes a e d x out → r ≡ packed x → Gives a e d r out
@@ -87,9 +80,6 @@ unescape_gives s d w q = gives (into_room (plain_length s) (length d)) (unescape
 
 -- ---- decoding
 
-pub split-is : (k : Key) {j : Key} {s : Split} → k ≡ j → s ≡ split j → s ≡ split k
-split-is k e f = f ∙ ap split (sym e)
-
 pub lay-is : (kind v at len : ℕ) (d d₁ d₂ d₃ : List ℕ) → field_count ≤ length d → d₁ ≡ put (set d 0 kind) 1 (be 8 v) → d₂ ≡ put d₁ 9 (be 8 at) → d₃ ≡ put d₂ 17 (be 8 len)
     → d₃ ≡ put d 0 (laid_out kind v at len)
 lay-is kind v at len d d₁ d₂ d₃ h p q s =
@@ -98,17 +88,8 @@ lay-is kind v at len d d₁ d₂ d₃ h p q s =
     let n : 17 ≡ 0 + length (kind ∷ be 8 v ++ be 8 at) = simp (length-append, length-be) in
     s ∙ rw (two_put kind (be 8 v) (be 8 at) d d₁ d₂ 9 (omega arith) (omega arith) p q, n) (put-put d 0 (kind ∷ be 8 v ++ be 8 at) (omega arith) (be 8 len) ∙ ap (put d 0) (ap (λ (x : List ℕ). kind ∷ x) (append_assoc (be 8 v) (be 8 at) (be 8 len))))
 
-module _ (b d : List ℕ) where
-  pub decode_short : {r : ℕ} → length d < field_count → r ≡ packed (Err BadRequest) → Decodes b d r d
-  decode_short h q = rw (lt-leb field_count (length d) h, q) (record { answer = packed_tells (Err BadRequest) (omega arith); buffer = refl })
-
-  module _ {got : Result Key Refusal} {r : ℕ} (h : field_count ≤ length d) (e : got ≡ forget (decode_why max_key b)) where
-    pub decode_refused : (w : Refusal) → got ≡ Err w → r ≡ packed (Err w) → Decodes b d r d
-    decode_refused w g q =
-        rw (le-leb field_count (length d) h, ← e, g, q)
-        (record { answer = packed_tells (Err w) (omega arith); buffer = refused_stays w d d })
-
-    pub decode_whole : (k : Key) {s : Split} {out : List ℕ} → got ≡ Ok k → s ≡ split k → out ≡ put d 0 (split_bytes s) → r ≡ packed (Ok field_count) → Decodes b d r out
-    decode_whole k g p w q =
-        rw (le-leb field_count (length d) h, ← e, g, q, w, p)
-        (record { answer = packed_tells (Ok field_count) (omega arith); buffer = put_front d (split_bytes (split k)) })
+pub decode-laid : (b d : List ℕ) {got : Result Key Refusal} {s : Split} {out : List ℕ} (k : Key) → field_count ≤ length d → got ≡ forget (decode_why max_key b) → got ≡ Ok k → s ≡ split k
+    → out ≡ put d 0 (split_bytes s) → DecodesInto b d (Ok field_count) out
+decode-laid b d k h e g p w =
+    rw (le-leb field_count (length d) h, ← e, g, w, p)
+    (record { answer = refl; buffer = put_front d (split_bytes (split k)) })

@@ -1,5 +1,5 @@
 -- Laws of a table's words and its bytes: each is read off the other, and bytes moved by whole words are words moved. Assumes nothing.
-use Prim.Native.Nat.{ℕ, zero, suc, ◌+◌, ◌-◌, ◌*◌, ◌/◌, ◌%◌, ◌≤◌, ◌<◌}
+use Prim.Native.Nat.{ℕ, zero, suc, ◌+◌, ◌-◌, ◌*◌, ◌/◌, ◌%◌, ◌≤◌}
 use mathlib.Core.Path.{◌≡◌, refl, sym, ap, ◌∙◌}
 use mathlib.Core.List.{List, [], ◌∷◌, ◌++◌, append-nil, append_assoc}
 use native.Mathlib.Nat.{zero-add, suc-add}
@@ -12,21 +12,13 @@ use Rattle.keycode.proofs.BufferLaws.{put-put}
 use Rattle.keycode.proofs.NumberLaws.{Bytes, bytes_take, bytes_drop, length-be, num_any, be-num}
 use Rattle.bitcask.specs.entry.Reading.{word_at}
 use Rattle.bitcask.specs.keydir.Words.{copied}
-use Rattle.bitcask.specs.keydir.Slots.{slot_words, free_slot, slot_head, slot_at, slots_of, words_of, insert_at, remove_at}
+use Rattle.bitcask.specs.keydir.Slots.{slot_words, slot_head, slot_at, words_of}
 use Rattle.bitcask.specs.declared.keydir.slots.Slot.{Slot}
-use Rattle.bitcask.proofs.keydir.SlotLaws.{insert_is, remove_is}
-use Rattle.host.specs.Table.{word_bytes, slot_bytes, spread, first_words, words_in}
+use Rattle.std.specs.List.{copy_within}
+use Rattle.std.proofs.lemmas.List.{drop-take}
+use Rattle.host.specs.Table.{word_bytes, slot_bytes, spread, first_words, words_in, words-length}
 
 -- ---- reading words
-
-first-length : (n : ℕ) (b : List ℕ) → length (first_words n b) ≡ n
-unfolding first_words
-first-length zero b = refl
-first-length (suc n) b = ap suc (first-length n (drop word_bytes b))
-
-pub words-length : (b : List ℕ) → length (words_in b) ≡ length b / word_bytes
-unfolding words_in
-words-length b = first-length (length b / word_bytes) b
 
 none : (xs : List ℕ) → length xs ≡ 0 → xs ≡ []
 none [] h = refl
@@ -74,6 +66,14 @@ words-put b xs at n e h =
     let q : word_bytes * at + length xs ≡ word_bytes * (at + n) = omega arith in
     words_append (at + n) (take (word_bytes * at) b ++ xs) (drop (word_bytes * at + length xs) b) m
     ∙ rw (words_append at (take (word_bytes * at) b) xs l, k, q, words_take at b (omega arith), words-drop (at + n) b (omega arith))
+
+copied_within : (b : List ℕ) (f t g : ℕ) → f ≤ t → t ≤ length b → copied b f t g ≡ copy_within b f t g
+unfolding copied put
+copied_within b f t g h k =
+    let m : t ≡ f + (t - f) = omega arith in
+    let e : slice f t b ≡ take (t - f) (drop f b) = ap (λ (k : ℕ). drop f (take k b)) m ∙ drop-take f (t - f) b in
+    let n : length (take (t - f) (drop f b)) ≡ t - f = length-take-le (t - f) (drop f b) (omega (arith, length-drop f b)) in
+    rw (e, n)
 
 words_slice : (b : List ℕ) (f t : ℕ) → f ≤ t → word_bytes * t ≤ length b → words_in (slice (word_bytes * f) (word_bytes * t) b) ≡ slice f t (words_in b)
 words_slice b f t h k =
@@ -152,11 +152,14 @@ pub slot-count : (b : List ℕ) → length b / slot_bytes ≡ length (words_in b
 slot-count b = omega (arith, words-length b)
 
 -- a slot's three words laid one after the other
-pub store_is : (b : List ℕ) (i : ℕ) (s : Slot) {p k v : ℕ} {b₁ b₂ b₃ : List ℕ} → slot_words * i + slot_words ≤ length (words_in b) → p ≡ s.place → k ≡ s.klen → v ≡ s.vlen
-    → b₁ ≡ put b (slot_bytes * i) (be word_bytes p) → b₂ ≡ put b₁ (slot_bytes * i + 4) (be word_bytes k) → b₃ ≡ put b₂ (slot_bytes * i + 8) (be word_bytes v)
+pub store_is : (b : List ℕ) (i : ℕ) (s : Slot) {b₁ b₂ b₃ : List ℕ} → slot_words * i + slot_words ≤ length (words_in b)
+    → b₁ ≡ put b (slot_bytes * i) (be word_bytes s.place) → b₂ ≡ put b₁ (slot_bytes * i + 4) (be word_bytes s.klen) → b₃ ≡ put b₂ (slot_bytes * i + 8) (be word_bytes s.vlen)
     → words_in b₃ ≡ put (words_in b) (slot_words * i) (words_of (s ∷ []))
 unfolding words_of spread
-store_is b i s {p} {k} {v} {b₁} {b₂} {b₃} h ep ek ev e f g =
+store_is b i s {b₁} {b₂} {b₃} h e f g =
+    let p : ℕ = s.place in
+    let k : ℕ = s.klen in
+    let v : ℕ = s.vlen in
     let n = words-length b in
     let lp = length-be word_bytes p in
     let lk = length-be word_bytes k in
@@ -172,28 +175,15 @@ store_is b i s {p} {k} {v} {b₁} {b₂} {b₃} h ep ek ev e f g =
     let ly : length (spread (p ∷ k ∷ v ∷ [])) ≡ word_bytes * slot_words = ap length (sym q) ∙ length-append x (be word_bytes v) ∙ omega arith in
     let z : at ≡ word_bytes * (slot_words * i) = omega arith in
     ap words_in (all ∙ rw (q, z)) ∙ words-put b (spread (p ∷ k ∷ v ∷ [])) (slot_words * i) slot_words ly (omega arith)
-    ∙ ap (put (words_in b) (slot_words * i)) (words_spread (p ∷ k ∷ v ∷ []) ∙ rw (ep, ek, ev))
+    ∙ ap (put (words_in b) (slot_words * i)) (words_spread (p ∷ k ∷ v ∷ []))
 
--- room made before the i-th of n slots, and a slot laid there
-pub insert_words : (b : List ℕ) (n i : ℕ) (s : Slot) {b₁ : List ℕ} {t : List ℕ} → i ≤ n → slot_words * n + slot_words ≤ length (words_in b)
-    → b₁ ≡ copied b (slot_bytes * i) (slot_bytes * n) (slot_bytes * i + slot_bytes) → t ≡ put (words_in b₁) (slot_words * i) (words_of (s ∷ []))
-    → t ≡ words_of (insert_at i s (slots_of n (words_in b))) ++ drop (slot_words * n + slot_words) (words_in b)
-insert_words b n i s {b₁} h k e f =
+-- slots moved
+pub shift_words : (b : List ℕ) (f t g : ℕ) {b' : List ℕ} → f ≤ t → slot_words * t ≤ length (words_in b) → slot_words * (g + (t - f)) ≤ length (words_in b)
+    → b' ≡ copy_within b (slot_bytes * f) (slot_bytes * t) (slot_bytes * g) → words_in b' ≡ copied (words_in b) (slot_words * f) (slot_words * t) (slot_words * g)
+shift_words b f t g h k m e =
     let l = words-length b in
-    let x : slot_bytes * i ≡ word_bytes * (slot_words * i) = omega arith in
-    let y : slot_bytes * n ≡ word_bytes * (slot_words * n) = omega arith in
-    let z : word_bytes * (slot_words * i) + slot_bytes ≡ word_bytes * (slot_words * i + slot_words) = omega arith in
-    let q : words_in b₁ ≡ copied (words_in b) (slot_words * i) (slot_words * n) (slot_words * i + slot_words) = ap words_in e ∙ rw (x, y, z) (words_copied b (slot_words * i) (slot_words * n) (slot_words * i + slot_words) (omega arith) (omega arith) (omega arith)) in
-    f ∙ ap (λ (w : List ℕ). put w (slot_words * i) (words_of (s ∷ []))) q ∙ insert_is (words_in b) n i s h k
-
--- the gap of the i-th of n slots closed, and the last cleared
-pub remove_words : (b : List ℕ) (n i : ℕ) {b₁ : List ℕ} {t : List ℕ} → i < n → slot_words * n ≤ length (words_in b)
-    → b₁ ≡ copied b (slot_bytes * i + slot_bytes) (slot_bytes * (n - 1) + slot_bytes) (slot_bytes * i) → t ≡ put (words_in b₁) (slot_words * (n - 1)) (words_of (free_slot ∷ []))
-    → t ≡ words_of (remove_at i (slots_of n (words_in b))) ++ (replicate slot_words 0 ++ drop (slot_words * n) (words_in b))
-remove_words b n i {b₁} h k e f =
-    let l = words-length b in
-    let x : slot_bytes * i + slot_bytes ≡ word_bytes * (slot_words * i + slot_words) = omega arith in
-    let y : slot_bytes * (n - 1) + slot_bytes ≡ word_bytes * (slot_words * (n - 1) + slot_words) = omega arith in
-    let z : slot_bytes * i ≡ word_bytes * (slot_words * i) = omega arith in
-    let q : words_in b₁ ≡ copied (words_in b) (slot_words * i + slot_words) (slot_words * (n - 1) + slot_words) (slot_words * i) = ap words_in e ∙ rw (x, y, z) (words_copied b (slot_words * i + slot_words) (slot_words * (n - 1) + slot_words) (slot_words * i) (omega arith) (omega arith) (omega arith)) in
-    f ∙ ap (λ (w : List ℕ). put w (slot_words * (n - 1)) (words_of (free_slot ∷ []))) q ∙ remove_is (words_in b) n k i h
+    let x : slot_bytes * f ≡ word_bytes * (slot_words * f) = omega arith in
+    let y : slot_bytes * t ≡ word_bytes * (slot_words * t) = omega arith in
+    let z : slot_bytes * g ≡ word_bytes * (slot_words * g) = omega arith in
+    ap words_in (e ∙ sym (copied_within b (slot_bytes * f) (slot_bytes * t) (slot_bytes * g) (omega arith) (omega arith)))
+    ∙ rw (x, y, z) (words_copied b (slot_words * f) (slot_words * t) (slot_words * g) (omega arith) (omega arith) (omega arith))

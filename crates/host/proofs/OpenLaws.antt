@@ -4,7 +4,7 @@ use mathlib.Core.Path.{◌≡◌, refl, sym, ap, ◌∙◌}
 use mathlib.Core.Bool.{Bool, true, false}
 use mathlib.Core.List.{List, []}
 use native.Mathlib.Omega.{arith}
-use lib.Dec.{eqb, ltb}
+use lib.Dec.{eqb}
 use lib.ListN.{length, replicate}
 use borrow.Author.Tests.{eq-eqb, ne_eqb, eqb-true}
 use Rattle.bitcask.specs.declared.request.Used.{Used}
@@ -18,24 +18,16 @@ use Rattle.keycode.proofs.NumberLaws.{Bytes}
 use Rattle.bitcask.specs.keydir.Slots.{slot_words}
 use Rattle.bitcask.specs.declared.keydir.slots.Slot.{Slot}
 use Rattle.bitcask.specs.recovery.Agree.{fit}
-use Rattle.bitcask.specs.recovery.Recover.{items, ends, room_for, run}
+use Rattle.bitcask.specs.recovery.Recover.{items, ends, run}
 use Rattle.bitcask.specs.recovery.Promises.{opened_by, opened_words, open_answer, open_table, Walks, Opens as OpensWords}
 use Rattle.bitcask.proofs.recovery.ItemLaws.{items_chain, chain_ends}
 use Rattle.bitcask.proofs.recovery.AgreeLaws.{fit-sound}
 use Rattle.bitcask.proofs.recovery.WalkLaws.{open_bad, open_sound, open_clear, open_walked}
 use Rattle.host.specs.Answers.{half, length_of, packed}
-use Rattle.host.specs.Table.{word_bytes, slot_bytes, spread, words_in}
-use Rattle.host.specs.Promises.{used_length, open_length, open_bytes, Opens}
+use Rattle.host.specs.Table.{word_bytes, spread, words_in, words-length}
+use Rattle.host.specs.Promises.{used_length, open_length, open_bytes, OpensBytes, Opens}
 use Rattle.host.proofs.AnswerLaws.{packed_tells}
-use Rattle.host.proofs.ByteLaws.{words-length, words-zeros, spread-words, spread-zeros, slot-count}
-
--- ---- room for a slot
-
-pub room_new : (slots count i : ℕ) {f : Result ℕ ℕ} → f ≡ Err i → ltb count slots ≡ room_for slots false f count
-room_new slots count i e = rw e
-
-pub room-words : (b : List ℕ) (f : Result ℕ ℕ) (n : ℕ) {r : Bool} → r ≡ room_for (length b / slot_bytes) false f n → r ≡ room_for (length (words_in b) / slot_words) false f n
-room-words b f n e = e ∙ ap (λ (k : ℕ). room_for k false f n) (slot-count b)
+use Rattle.host.proofs.ByteLaws.{words-zeros, spread-words, spread-zeros}
 
 -- ---- a table that was cleared
 
@@ -46,9 +38,6 @@ cleared b₀ b {b₁} e l =
     words-zeros b₁ (length b) e ∙ ap (λ (k : ℕ). replicate k 0) n
 
 -- ---- the answer
-
-pub used-is : (r : Result Used Refusal) {c : Result Used Refusal} → r ≡ c → used_length c ≡ used_length r
-used-is r e = ap used_length (sym e)
 
 -- no used length reaches the half
 opened-small : (o : Option (List Slot)) (n : ℕ) → n < half → length_of (used_length (opened_by o n)) < half
@@ -66,50 +55,55 @@ answer-small log used n = go (fit (length log) used n) refl
         (omega (arith, s.small, s.within, chain_ends (items_chain log used 0) (omega arith)))
     go false e = omega arith
 
-module _ (log : List ℕ) (used : ℕ) (t : List ℕ) {t' : List ℕ} {r : ℕ} where
-  -- bytes that are no whole words
-  pub open_odd : t' ≡ replicate (length t) 0 → length t' ≡ length t → (length t' % word_bytes ≡ 0 → ⊥) → r ≡ packed (Err BadRequest) → Opens log used t r t'
-  unfolding open_length open_bytes
-  open_odd e l f q =
-      let p = ne_eqb (length t % word_bytes) 0 (λ g. f (ap (λ (n : ℕ). n % word_bytes) l ∙ g)) in
-      record { answer = rw (p, q) (packed_tells (Err BadRequest) (omega arith)); table = rw p e }
+open-small : (log : List ℕ) (used n : ℕ) → length_of (open_length log used n) < half
+unfolding open_length
+open-small log used n = go (eqb (n % word_bytes) 0)
+  where
+    go : (b : Bool) → length_of (pick b (used_length (open_answer log used (n / word_bytes))) (Err BadRequest)) < half
+    go true = answer-small log used (n / word_bytes)
+    go false = omega arith
 
-  -- whole words, of which the opening is
-  pub open_bytes_lem : {c : Result Used Refusal} → OpensWords log used (words_in t) c (words_in t') → Bytes t' → length t' ≡ length t → length t % word_bytes ≡ 0 → r ≡ packed (used_length c) → Opens log used t r t'
-  unfolding open_length open_bytes
-  open_bytes_lem o y l m q =
-      let p = eq-eqb (length t % word_bytes) 0 m in
-      let n = words-length t in
-      let s : spread (words_in t') ≡ t' = spread-words t' y (ap (λ (k : ℕ). k % word_bytes) l ∙ m) in
-      record {
-        answer = rw (p, q, o.answer, n) (packed_tells (used_length (open_answer log used (length t / word_bytes))) (answer-small log used (length t / word_bytes)));
-        table = rw (p, ← n) (sym s ∙ ap spread o.table);
-      }
+pub opens : (log : List ℕ) (used : ℕ) (t : List ℕ) {a : Result ℕ Refusal} {r : ℕ} {t' : List ℕ} → OpensBytes log used t a t' → r ≡ packed a → Opens log used t r t'
+opens log used t o q = record { answer = rw (q, o.answer) (packed_tells (open_length log used (length t)) (open-small log used (length t))); table = o.table }
 
 -- ---- by the test of the sizes and the walk, t₁ being the table t cleared
 
-module _ (log : List ℕ) (used : ℕ) (t : List ℕ) {t₁ : List ℕ} (e : t₁ ≡ replicate (length t) 0) (l : length t₁ ≡ length t) {b : Bool} (f : b ≡ fit (length log) used (length t₁ / word_bytes)) where
-  same-words : length (words_in t₁) ≡ length (words_in t)
-  same-words = words-length t₁ ∙ ap (λ (k : ℕ). k / word_bytes) l ∙ sym (words-length t)
+module _ (log : List ℕ) (used : ℕ) (t : List ℕ) {t₁ : List ℕ} (e : t₁ ≡ replicate (length t) 0) (l : length t₁ ≡ length t) where
+  -- bytes that are no whole words
+  pub open_odd : (length t₁ % word_bytes ≡ 0 → ⊥) → OpensBytes log used t (Err BadRequest) t₁
+  unfolding open_length open_bytes
+  open_odd f = let p = ne_eqb (length t % word_bytes) 0 (λ g. f (ap (λ (n : ℕ). n % word_bytes) l ∙ g)) in record { answer = rw p; table = rw p e }
 
-  fit_words : b ≡ fit (length log) used (length (words_in t₁))
-  fit_words = f ∙ ap (fit (length log) used) (sym (words-length t₁))
+  module _ (m : length t₁ % word_bytes ≡ 0) where
+    -- whole words, of which the opening is
+    open-words : {c : Result Used Refusal} {t' : List ℕ} → OpensWords log used (words_in t) c (words_in t') → Bytes t' → length t' ≡ length t₁ → OpensBytes log used t (used_length c) t'
+    unfolding open_length open_bytes
+    open-words {c} {t'} o y k =
+        let d : length t % word_bytes ≡ 0 = ap (λ (n : ℕ). n % word_bytes) (sym l) ∙ m in
+        let p = eq-eqb (length t % word_bytes) 0 d in
+        let n = words-length t in
+        let s : spread (words_in t') ≡ t' = spread-words t' y (ap (λ (j : ℕ). j % word_bytes) (k ∙ l) ∙ d) in
+        record { answer = rw (p, o.answer, n); table = rw (p, ← n) (sym s ∙ ap spread o.table) }
 
-  pub open_refused : {r : ℕ} → b ≡ false → Bytes t₁ → length t₁ % word_bytes ≡ 0 → r ≡ packed (Err BadRequest) → Opens log used t r t₁
-  open_refused q y m p =
-      open_bytes_lem log used t (open_bad log used (words_in t) (cleared t t e refl) same-words fit_words q) y l (ap (λ (k : ℕ). k % word_bytes) (sym l) ∙ m) p
+    module _ {b : Bool} (f : b ≡ fit (length log) used (length t₁ / word_bytes)) where
+      same-words : length (words_in t₁) ≡ length (words_in t)
+      same-words = words-length t₁ ∙ ap (λ (k : ℕ). k / word_bytes) l ∙ sym (words-length t)
 
-  module _ (q : b ≡ true) where
-    pub walk_fit : used ≤ max_log
-    walk_fit = let s = open_sound log used (words_in t) (cleared t t e refl) same-words fit_words q in omega (arith, s.small, s.within)
+      fit_words : b ≡ fit (length log) used (length (words_in t₁))
+      fit_words = f ∙ ap (fit (length log) used) (sym (words-length t₁))
 
-    pub walk_clear : words_in t₁ ≡ replicate (length (words_in t₁)) 0
-    walk_clear = open_clear log used (words_in t) (cleared t t e refl) same-words fit_words q
+      pub open_refused : b ≡ false → Bytes t₁ → OpensBytes log used t (Err BadRequest) t₁
+      open_refused q y = open-words (open_bad log used (words_in t) (cleared t t e refl) same-words fit_words q) y refl
 
-    pub open_done : {c : Result Used Refusal} {a : Result ℕ Refusal} {r : ℕ} {t' : List ℕ} → Walks log used (length (words_in t₁)) c (words_in t') → Bytes t' → length t' ≡ length t₁ → length t₁ % word_bytes ≡ 0
-        → a ≡ used_length c → r ≡ packed a → Opens log used t r t'
-    open_done w y k m g p =
-        open_bytes_lem log used t (open_walked log used (words_in t) (cleared t t e refl) same-words fit_words q w) y (k ∙ l) (ap (λ (n : ℕ). n % word_bytes) (sym l) ∙ m) (p ∙ ap packed g)
+      module _ (q : b ≡ true) where
+        pub walk_fit : used ≤ max_log
+        walk_fit = let s = open_sound log used (words_in t) (cleared t t e refl) same-words fit_words q in omega (arith, s.small, s.within)
+
+        pub walk_clear : words_in t₁ ≡ replicate (length (words_in t₁)) 0
+        walk_clear = open_clear log used (words_in t) (cleared t t e refl) same-words fit_words q
+
+        pub open_done : {c : Result Used Refusal} {got : Result Used Refusal} {t' : List ℕ} → Walks log used (length (words_in t₁)) c (words_in t') → Bytes t' → length t' ≡ length t₁ → c ≡ got → OpensBytes log used t (used_length got) t'
+        open_done w y k g = rw g at (open-words (open_walked log used (words_in t) (cleared t t e refl) same-words fit_words q w) y k)
 
 -- ---- every refusal clears the table
 

@@ -4,7 +4,6 @@ use mathlib.Core.Path.{◌≡◌, refl, sym, ap, ◌∙◌}
 use mathlib.Core.Bool.{Bool, true, false}
 use mathlib.Core.List.{List}
 use native.Mathlib.Omega.{arith}
-use lib.Dec.{ltb}
 use lib.ListN.{length}
 use Rattle.std.specs.Prelude.{Result, ℕ, Ok, Err, None, Some, Option}
 use Rattle.bitcask.specs.declared.entry.read.Lengths.{Lengths}
@@ -17,19 +16,17 @@ use Rattle.bitcask.specs.keydir.Place.{place_of, Among, put_at, cut_at, room_at,
 use Rattle.bitcask.proofs.keydir.SlotLaws.{slots_length}
 use Rattle.bitcask.proofs.keydir.PlaceLaws.{place-among}
 use Rattle.bitcask.proofs.keydir.TableLaws.{entered-room}
-use Rattle.host.specs.declared.opening.Took.{Took}
-use Rattle.host.specs.declared.opening.Took.TheVariants.{Over, Full, Next}
+use Rattle.host.specs.declared.opening.Next.{Next}
+use Rattle.keycode.specs.declared.refusal.Refusal.{Refusal}
+use Rattle.keycode.specs.declared.refusal.Refusal.TheVariants.{TableFull}
 use Rattle.bitcask.specs.recovery.Recover.{Item, room_for, step_in}
-use Rattle.host.specs.Taking.{tried, Takes, TakesEntry}
+use Rattle.host.specs.Taking.{tried, went_on, Takes, TakesEntry}
 
 -- ---- an entry, at the place that was found
 
-pub room_new : (words count i : ℕ) {f : Result ℕ ℕ} → f ≡ Err i → ltb count (words / slot_words) ≡ room_for (words / slot_words) false f count
-room_new words count i e = rw e
-
 -- of an entry's new slots
-takes_some : (log t : List ℕ) (n : ℕ) (i : Item) (end : ℕ) {ss : List Slot} {r : ℕ} {t' : List ℕ} → tried log t n i ≡ Some ss → Becomes t n ss t' r → Takes log t n i end (Next end r) t'
-takes_some log t n i end q w = record { answer = rw q (ap (Next end) w.count); words = rw q w.words }
+takes_some : (log t : List ℕ) (n : ℕ) (i : Item) (end : ℕ) {ss : List Slot} {r : ℕ} {t' : List ℕ} → tried log t n i ≡ Some ss → Becomes t n ss t' r → Takes log t n i end (Ok (record { at = end; count = r })) t'
+takes_some log t n i end q w = record { answer = rw q (ap (λ (m : ℕ). Ok (record { at = end; count = m })) w.count); words = rw q w.words }
 
 same-room : (t : List ℕ) (f : Result ℕ ℕ) (ss : List Slot) → room_at t f ss ≡ room_for (length t / slot_words) false f (length ss)
 same-room t (Ok i) ss = refl
@@ -43,7 +40,7 @@ module _ (log t : List ℕ) (n : ℕ) (s : Slot) {key : List ℕ} {f : Result �
   unfolding tried
   tried-is g = rw (ef, ek)
 
-  pub del_takes : (end : ℕ) {r : ℕ} {t' : List ℕ} → Becomes t n (cut_at f (slots_of n t)) t' r → Takes log t n (record { slot = s; gone = true }) end (Next end r) t'
+  pub del_takes : (end : ℕ) {r : ℕ} {t' : List ℕ} → Becomes t n (cut_at f (slots_of n t)) t' r → Takes log t n (record { slot = s; gone = true }) end (Ok (record { at = end; count = r })) t'
   unfolding step_in
   del_takes end w = takes_some log t n (record { slot = s; gone = true }) end (tried-is true) w
 
@@ -51,13 +48,13 @@ module _ (log t : List ℕ) (n : ℕ) (s : Slot) {key : List ℕ} {f : Result �
     room-is : room_for (length t / slot_words) false f (length (slots_of n t)) ≡ b
     room-is = rw (slots_length n t) (sym eb)
 
-    pub set_full : b ≡ false → Takes log t n (record { slot = s; gone = false }) end Full t
+    pub set_full : b ≡ false → Takes log t n (record { slot = s; gone = false }) end (Err TableFull) t
     unfolding step_in
     set_full e =
         let q : tried log t n (record { slot = s; gone = false }) ≡ None = tried-is false ∙ rw (room-is, e) in
         record { answer = rw q; words = rw q }
 
-    pub set_takes : {r : ℕ} {t' : List ℕ} → b ≡ true → Becomes t n (entered t s f (slots_of n t)) t' r → Takes log t n (record { slot = s; gone = false }) end (Next end r) t'
+    pub set_takes : {r : ℕ} {t' : List ℕ} → b ≡ true → Becomes t n (entered t s f (slots_of n t)) t' r → Takes log t n (record { slot = s; gone = false }) end (Ok (record { at = end; count = r })) t'
     unfolding step_in
     set_takes e w =
         let q : tried log t n (record { slot = s; gone = false }) ≡ Some (put_at s f (slots_of n t)) = tried-is false ∙ rw (room-is, e) in
@@ -74,21 +71,21 @@ module _ (log : List ℕ) (used : ℕ) (t : List ℕ) (n at : ℕ) {e : Option L
     pub del-within : (k : ℕ) → e ≡ (Some (Del k)) → at + 8 + k ≤ used
     del-within k q = let w = entry-within log used at (sym er ∙ q) h in omega arith
 
-  pub entry-over : e ≡ None → TakesEntry log used t n at Over t
+  pub entry-over : e ≡ None → TakesEntry log used t n at (Ok None) t
   entry-over q = let p : entry_at log used at ≡ None = sym er ∙ q in record { answer = rw p; words = rw p }
 
-  pub entry_set : (k v : ℕ) {s : Slot} {r : Took} {t' : List ℕ} → e ≡ (Some (Set k v)) → s ≡ record { place = at + 1; klen = k; vlen = v }
-      → Takes log t n (record { slot = s; gone = false }) (at + 8 + k + v) r t' → TakesEntry log used t n at r t'
+  pub entry_set : (k v : ℕ) {s : Slot} {r : Result Next Refusal} {t' : List ℕ} → e ≡ (Some (Set k v)) → s ≡ record { place = at + 1; klen = k; vlen = v }
+      → Takes log t n (record { slot = s; gone = false }) (at + 8 + k + v) r t' → TakesEntry log used t n at (went_on r) t'
   entry_set k v q es w =
       let p : entry_at log used at ≡ (Some (Set k v)) = sym er ∙ q in
       let m : at + 8 + k + v ≡ at + 1 + 7 + k + v = omega arith in
       let x = rw (es, m) at w in
-      record { answer = rw p x.answer; words = rw p x.words }
+      record { answer = rw p (ap went_on x.answer); words = rw p x.words }
 
-  pub entry-del : (k : ℕ) {s : Slot} {r : Took} {t' : List ℕ} → e ≡ (Some (Del k)) → s ≡ record { place = at + 1; klen = k; vlen = 0 }
-      → Takes log t n (record { slot = s; gone = true }) (at + 8 + k) r t' → TakesEntry log used t n at r t'
+  pub entry-del : (k : ℕ) {s : Slot} {r : Result Next Refusal} {t' : List ℕ} → e ≡ (Some (Del k)) → s ≡ record { place = at + 1; klen = k; vlen = 0 }
+      → Takes log t n (record { slot = s; gone = true }) (at + 8 + k) r t' → TakesEntry log used t n at (went_on r) t'
   entry-del k q es w =
       let p : entry_at log used at ≡ (Some (Del k)) = sym er ∙ q in
       let m : at + 8 + k ≡ at + 1 + 7 + k + 0 = omega arith in
       let x = rw (es, m) at w in
-      record { answer = rw p x.answer; words = rw p x.words }
+      record { answer = rw p (ap went_on x.answer); words = rw p x.words }

@@ -4,7 +4,8 @@ use mathlib.Core.Path.{◌≡◌, refl, sym, ap, ◌∙◌, subst₂}
 use mathlib.Core.List.{List, []}
 use native.Mathlib.Omega.{arith}
 use lib.ListN.{length, replicate}
-use Rattle.std.specs.Prelude.{Ok, Err, Option, None, Some}
+use Rattle.std.specs.Prelude.{Result, Ok, Err, Option, None, Some}
+use Rattle.keycode.specs.declared.refusal.Refusal.{Refusal}
 use Rattle.keycode.specs.declared.refusal.Refusal.TheVariants.{TableFull}
 use Rattle.keycode.proofs.Basics.{nope}
 use Rattle.bitcask.specs.entry.Reading.{entry_at}
@@ -13,10 +14,9 @@ use Rattle.bitcask.specs.keydir.Slots.{slot_words, table_of, key_of}
 use Rattle.bitcask.specs.keydir.Place.{place_in, Sorted, sorted_none}
 use Rattle.bitcask.proofs.keydir.PlaceLaws.{place_in_among, place-sorted}
 use Rattle.bitcask.proofs.keydir.TableLaws.{table_empty, table-length, table-slots, table-laid}
-use Rattle.host.specs.declared.opening.Took.{Took}
-use Rattle.host.specs.declared.opening.Took.TheVariants.{Over, Full, Next}
+use Rattle.host.specs.declared.opening.Next.{Next}
 use Rattle.bitcask.specs.recovery.Recover.{Item, item_of, next, items, ends, step_in, then_run, run}
-use Rattle.host.specs.Taking.{tried, took_by, took_of, TakesEntry}
+use Rattle.host.specs.Taking.{tried, took_by, went_on, took_of, TakesEntry}
 use Rattle.bitcask.specs.recovery.Promises.{Walks}
 use Rattle.bitcask.proofs.recovery.ItemLaws.{item_stands, items-stop, items-next}
 use Rattle.bitcask.proofs.recovery.FoldLaws.{step-sorted}
@@ -24,38 +24,45 @@ use Rattle.bitcask.proofs.recovery.WalkLaws.{step_some, step_room}
 
 -- ---- what an entry's answer says
 
-not_over : (end : ℕ) (o : Option (List Slot)) → took_by end o ≡ Over → ⊥
-not_over end None e = nope (cc)
-not_over end (Some ss) e = nope (cc)
-
-says-over : (o : Option Item) (f : Item → Option (List Slot)) → took_of o f ≡ Over → o ≡ None
+says-over : (o : Option Item) (f : Item → Option (List Slot)) → took_of o f ≡ Ok None → o ≡ None
 says-over None f e = refl
-says-over (Some i) f e = absurd (not_over (next i) (f i) e)
+says-over (Some i) f e = absurd (not_over (f i) e)
+  where
+    not_over : (r : Option (List Slot)) → went_on (took_by (next i) r) ≡ Ok None → ⊥
+    not_over None q = nope (cc)
+    not_over (Some ss) q = nope (cc)
 
-by_full : (end : ℕ) (o : Option (List Slot)) → took_by end o ≡ Full → o ≡ None
-by_full end None e = refl
-by_full end (Some ss) e = nope (cc)
+-- a refusal
+record Refused (o : Option Item) (f : Item → Option (List Slot)) (w : Refusal) : Type 0 where
+  item : Item
+  was : o ≡ Some item
+  none : f item ≡ None
+  is : w ≡ TableFull
 
-says-full : (o : Option Item) (f : Item → Option (List Slot)) → took_of o f ≡ Full → (i : Item) × (o ≡ Some i) × (f i ≡ None)
-says-full None f e = nope (cc)
-says-full (Some i) f e = (i, refl, by_full (next i) (f i) e)
+says-full : (o : Option Item) (f : Item → Option (List Slot)) (w : Refusal) → took_of o f ≡ Err w → Refused o f w
+says-full None f w e = nope (cc)
+says-full (Some i) f w e = go (f i) refl e
+  where
+    go : (r : Option (List Slot)) → f i ≡ r → went_on (took_by (next i) r) ≡ Err w → Refused (Some i) f w
+    go None q h = record { item = i; was = refl; none = q; is = cc }
+    go (Some ss) q h = nope (cc)
 
 -- the entry, the slots that it left, and where the walk goes on
-record Went (o : Option Item) (f : Item → Option (List Slot)) (a m : ℕ) : Type 0 where
+record Went (o : Option Item) (f : Item → Option (List Slot)) (n : Next) : Type 0 where
   item : Item
   slots : List Slot
   was : o ≡ Some item
   became : f item ≡ Some slots
-  to : a ≡ next item
-  count : m ≡ length slots
+  to : n.at ≡ next item
+  count : n.count ≡ length slots
 
-by_next : (i : Item) (f : Item → Option (List Slot)) (o : Option (List Slot)) (a m : ℕ) → f i ≡ o → took_by (next i) o ≡ Next a m → Went (Some i) f a m
-by_next i f None a m q e = nope (cc)
-by_next i f (Some ss) a m q e = record { item = i; slots = ss; was = refl; became = q; to = cc; count = cc }
-
-says-next : (o : Option Item) (f : Item → Option (List Slot)) (a m : ℕ) → took_of o f ≡ Next a m → Went o f a m
-says-next None f a m e = nope (cc)
-says-next (Some i) f a m e = by_next i f (f i) a m refl e
+says-next : (o : Option Item) (f : Item → Option (List Slot)) (n : Next) → took_of o f ≡ Ok (Some n) → Went o f n
+says-next None f n e = nope (cc)
+says-next (Some i) f n e = go (f i) refl e
+  where
+    go : (r : Option (List Slot)) → f i ≡ r → went_on (took_by (next i) r) ≡ Ok (Some n) → Went (Some i) f n
+    go None q h = nope (cc)
+    go (Some ss) q h = let m : n ≡ record { at = next i; count = length ss } = cc in record { item = i; slots = ss; was = refl; became = q; to = ap (λ (x : Next). x.at) m; count = ap (λ (x : Next). x.count) m }
 
 -- ---- what holds before each entry
 
@@ -98,8 +105,8 @@ module _ {log : List ℕ} {used n : ℕ} {t : List ℕ} {at count : ℕ} (w : Wa
   run_is : (i : Item) → tried log t count i ≡ step_in (n / slot_words) i (place_in log (key_of log i.slot) w.slots) w.slots
   run_is i = tried-is log t n count w.slots w.words w.counted w.room w.sorted i
 
-  module _ {r : Took} {t' : List ℕ} (v : TakesEntry log used t count at r t') where
-    pub walk_over : r ≡ Over → Walks log used n (Ok (record { len = at })) t'
+  module _ {r : Result (Option Next) Refusal} {t' : List ℕ} (v : TakesEntry log used t count at r t') where
+    pub walk_over : r ≡ Ok None → Walks log used n (Ok (record { len = at })) t'
     unfolding run ends
     walk_over e =
         let o : item_of (entry_at log used at) at ≡ None = says-over (item_of (entry_at log used at) at) (tried log t count) (sym v.answer ∙ e) in
@@ -108,14 +115,14 @@ module _ {log : List ℕ} {used n : ℕ} {t : List ℕ} {at count : ℕ} (w : Wa
         let q : ends 0 (items log used 0) ≡ at = sym w.ended ∙ ap (ends at) z in
         record { answer = rw (p, q); table = v.words ∙ rw (o, p) w.words }
 
-    pub walk_full : r ≡ Full → Walks log used n (Err TableFull) (replicate n 0)
+    pub walk_full : (refusal : Refusal) → r ≡ Err refusal → Walks log used n (Err refusal) (replicate n 0)
     unfolding run
-    walk_full e =
-        let g = says-full (item_of (entry_at log used at) at) (tried log t count) (sym v.answer ∙ e) in
-        let z = items-next log used at g.0 g.1 in
+    walk_full refusal e =
+        let g = says-full (item_of (entry_at log used at) at) (tried log t count) refusal (sym v.answer ∙ e) in
+        let z = items-next log used at g.item g.was in
         let p : run log (n / slot_words) (items log used 0) [] ≡ None = sym w.runs ∙ ap (λ (is : List Item). run log (n / slot_words) is w.slots) z
-        ∙ ap (λ (x : Option (List Slot)). then_run x (λ y. run log (n / slot_words) (items log used (next g.0)) y)) (sym (run_is g.0) ∙ g.2) in
-        record { answer = rw p; table = rw p }
+        ∙ ap (λ (x : Option (List Slot)). then_run x (λ y. run log (n / slot_words) (items log used (next g.item)) y)) (sym (run_is g.item) ∙ g.none) in
+        record { answer = rw (p, g.is); table = rw p }
 
     walked : (i : Item) (ss : List Slot) → item_of (entry_at log used at) at ≡ Some i → tried log t count i ≡ Some ss → Walking log used n t' (next i) (length ss)
     unfolding run ends
@@ -137,12 +144,12 @@ module _ {log : List ℕ} {used n : ℕ} {t : List ℕ} {at count : ℕ} (w : Wa
           ended = ap (ends at) (sym z) ∙ w.ended;
         }
 
-    pub walk_next : (a m : ℕ) → r ≡ Next a m → Walking log used n t' a m
-    walk_next a m e =
-        let g = says-next (item_of (entry_at log used at) at) (tried log t count) a m (sym v.answer ∙ e) in
-        subst₂ (λ (b k : ℕ). Walking log used n t' b k) (sym g.to) (sym g.count) (walked g.item g.slots g.was g.became)
+    module _ (m : Next) (e : r ≡ Ok (Some m)) where
+      went : Went (item_of (entry_at log used at) at) (tried log t count) m
+      went = says-next (item_of (entry_at log used at) at) (tried log t count) m (sym v.answer ∙ e)
 
-    pub walk_less : (a m : ℕ) → r ≡ Next a m → used - a < used - at
-    walk_less a m e =
-        let g = says-next (item_of (entry_at log used at) at) (tried log t count) a m (sym v.answer ∙ e) in
-        let s = item_stands log used at g.item g.was in omega (arith, g.to)
+      pub walk_next : Walking log used n t' m.at m.count
+      walk_next = let g = went in subst₂ (λ (b k : ℕ). Walking log used n t' b k) (sym g.to) (sym g.count) (walked g.item g.slots g.was g.became)
+
+      pub walk_less : used - m.at < used - at
+      walk_less = let g = went in let s = item_stands log used at g.item g.was in omega (arith, g.to)

@@ -8,7 +8,7 @@ use Rattle.keycode.specs.Limits.{max_key}
 use Rattle.keycode.specs.Number.{be}
 use Rattle.keycode.specs.Refusals.{length_number}
 use Rattle.keycode.specs.Strings.{unescaped, plain_length}
-use Rattle.keycode.specs.Promises.{into_room}
+use Rattle.keycode.specs.Promises.{Writes, into_room}
 use Rattle.keycode.specs.declared.refusal.Refusal.TheVariants.{BadRequest}
 use Rattle.keycode.specs.key.Keys.{Fields, encode, user_key, decode_why, forget}
 use Rattle.keycode.specs.encode.Promises.{encode_answer}
@@ -67,6 +67,11 @@ abbrev pub Decodes : List ℕ → List ℕ → ℕ → List ℕ → Type 0
 Decodes b d r out =
     Gives (pick (leb field_count (length d)) (decoded_length (forget (decode_why max_key b))) (Err BadRequest)) (decoded_bytes (forget (decode_why max_key b))) d r out
 
+-- the same before the answer is packed
+abbrev pub DecodesInto : List ℕ → List ℕ → Result ℕ Refusal → List ℕ → Type 0
+DecodesInto b d r out =
+    Writes (pick (leb field_count (length d)) (decoded_length (forget (decode_why max_key b))) (Err BadRequest)) (decoded_bytes (forget (decode_why max_key b))) d r out
+
 -- ---- opening
 
 -- the used length that an opening left, as a length
@@ -84,4 +89,9 @@ open_bytes log used n = pick (eqb (n % word_bytes) 0) (spread (open_table log us
 
 pub record Opens (log : List ℕ) (used : ℕ) (t : List ℕ) (r : ℕ) (t' : List ℕ) : Type 0 where
   pub answer : Tells (open_length log used (length t)) r
+  pub table : t' ≡ open_bytes log used (length t)
+
+-- the same before the answer is packed
+pub record OpensBytes (log : List ℕ) (used : ℕ) (t : List ℕ) (r : Result ℕ Refusal) (t' : List ℕ) : Type 0 where
+  pub answer : r ≡ open_length log used (length t)
   pub table : t' ≡ open_bytes log used (length t)

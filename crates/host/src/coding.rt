@@ -3,12 +3,12 @@
 ghost use Rattle.std.specs.Prelude.{◌≡◌, ◌≤◌, length};
 ghost use Rattle.keycode.specs.Buffer.{put};
 ghost use Rattle.keycode.specs.key.Keys.{next_version, txn_active, txn_active_snapshot, txn_write, version as version_key, unversioned};
-ghost use Rattle.host.specs.Promises.{Encodes, Decodes, Unescapes, field_count, laid_out, split};
+ghost use Rattle.host.specs.Promises.{Encodes, Decodes, DecodesInto, Unescapes, field_count, split, split_bytes};
 
 use crate::answers::told;
 use keycode::number::put_number;
 use keycode::{
-    Key, Refusal, decode, encode_next_version, encode_txn_active, encode_txn_active_snapshot,
+    Key, Part, Refusal, decode, encode_next_version, encode_txn_active, encode_txn_active_snapshot,
     encode_txn_write, encode_unversioned, encode_version, unescape,
 };
 
@@ -64,8 +64,11 @@ pub extern "C" fn tjaldrum_unescape(escaped: &[u8], out: &mut [u8]) -> u64
 // How many bytes the fields of a decoded key take.
 const FIELDS: usize = 25;
 
-// A decoded key as four numbers.
-#[derive(Clone, Copy)]
+// What stands in place of the string of a kind that has none.
+const NO_PART: Part = Part { at: 0, len: 0 };
+
+// A decoded key as four numbers. A field that a kind does not have is 0.
+#[derive(Clone, Copy, Debug, PartialEq, Eq)]
 struct Split {
     kind: u8,
     version: u64,
@@ -73,55 +76,54 @@ struct Split {
     len: usize,
 }
 
-fn four(kind: u8, version: u64, at: usize, len: usize) -> Split
-    ensures { result ≡ record { kind = kind; version = version; at = at; len = len } }
-{
-    Split {
-        kind,
-        version,
-        at,
-        len,
+impl From<Key> for Split {
+    ghost from_gives = { λ key s. s ≡ split key };
+
+    fn from(key: Key) -> Split {
+        let (kind, version, part) = match key {
+            Key::NextVersion => (0, 0, NO_PART),
+            Key::TxnActive(v) => (1, v, NO_PART),
+            Key::TxnActiveSnapshot(v) => (2, v, NO_PART),
+            Key::TxnWrite(v, p) => (3, v, p),
+            Key::Version(p, v) => (4, v, p),
+            Key::Unversioned(p) => (5, 0, p),
+        };
+        Split {
+            kind,
+            version,
+            at: part.at,
+            len: part.len,
+        }
     }
 }
 
-// A field that a kind does not have is 0.
-fn split_up(key: Key) -> Split
-    ensures { result ≡ split key }
-{
-    match key {
-        Key::NextVersion => four(0, 0, 0, 0),
-        Key::TxnActive(v) => four(1, v, 0, 0),
-        Key::TxnActiveSnapshot(v) => four(2, v, 0, 0),
-        Key::TxnWrite(v, p) => four(3, v, p.at, p.len),
-        Key::Version(p, v) => four(4, v, p.at, p.len),
-        Key::Unversioned(p) => four(5, 0, p.at, p.len),
+impl Split {
+    // The fields to the front of out.
+    fn lay_out(self, out: &mut [u8])
+        requires { field_count ≤ length out.old }
+        ensures { out.new ≡ put out.old 0 (split_bytes self) }
+    {
+        out[0] = self.kind;
+        put_number(self.version, 8, out, 1);
+        put_number(self.at as u64, 8, out, 9);
+        put_number(self.len as u64, 8, out, 17);
     }
 }
 
-// The fields to the front of out.
-fn lay_out(kind: u8, version: u64, at: usize, len: usize, out: &mut [u8])
-    requires { field_count ≤ length out.old }
-    ensures { out.new ≡ put out.old 0 (laid_out kind version at len) }
+// How many bytes were laid; a refusal leaves the buffer.
+fn decode_into(bytes: &[u8], out: &mut [u8]) -> Result<usize, Refusal>
+    ensures { DecodesInto bytes.now out.old result out.new }
 {
-    out[0] = kind;
-    put_number(version, 8, out, 1);
-    put_number(at as u64, 8, out, 9);
-    put_number(len as u64, 8, out, 17);
+    if out.len() < FIELDS {
+        return Err(Refusal::BadRequest);
+    }
+    Split::from(decode(bytes)?).lay_out(out);
+    Ok(FIELDS)
 }
 
 #[unsafe(no_mangle)]
 pub extern "C" fn tjaldrum_decode(bytes: &[u8], out: &mut [u8]) -> u64
     ensures { Decodes bytes.now out.old result out.new }
 {
-    if out.len() < FIELDS {
-        return told(Err(Refusal::BadRequest));
-    }
-    match decode(bytes) {
-        Ok(key) => {
-            let s = split_up(key);
-            lay_out(s.kind, s.version, s.at, s.len, out);
-            told(Ok(FIELDS))
-        }
-        Err(r) => told(Err(r)),
-    }
+    told(decode_into(bytes, out))
 }

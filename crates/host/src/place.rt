@@ -1,26 +1,30 @@
-// Where a key belongs in a table of bytes, and a slot put in or taken out there, as bitcask::keydir does with words.
+// Where a key belongs in a table, and a slot put in or taken out there, whatever the table is a slice of.
 ghost use Rattle.std.specs.Prelude.{◌≡◌, ◌*◌, ◌≤◌, ◌<◌, length};
 ghost use Rattle.bitcask.specs.keydir.Slots.{slot_words, slots_of};
 ghost use Rattle.bitcask.specs.keydir.Place.{order_at, place_of, Among, entered, cut_at, Becomes};
-ghost use Rattle.host.specs.Table.{words_in};
 
-use crate::slots::{SLOT_BYTES, insert, remove, replace, slot_at};
+use crate::table::{Element, insert, remove, replace};
 use bitcask::keydir::{Slot, key_of};
 use keycode::compare;
 use std::cmp::Ordering;
 
 // The i-th slot's key against a key.
-fn order_at(log: &[u8], table: &[u8], count: usize, i: usize, key: &[u8]) -> Ordering
-    requires { (i < count) × (slot_words * count ≤ length (words_in table.now)) }
-    ensures { result ≡ order_at log.now key.now (slots_of count (words_in table.now)) i }
+fn order_at<E: Element>(log: &[u8], table: &[E], count: usize, i: usize, key: &[u8]) -> Ordering
+    requires { (i < count) × (slot_words * count ≤ length (E.words table.now)) }
+    ensures { result ≡ order_at log.now key.now (slots_of count (E.words table.now)) i }
 {
-    compare(key_of(log, slot_at(table, i)), key)
+    compare(key_of(log, E::slot_at(table, i)), key)
 }
 
 // The place of a key among the first `count` slots, by halving.
-pub(crate) fn find(log: &[u8], table: &[u8], count: usize, key: &[u8]) -> Result<usize, usize>
-    requires { slot_words * count ≤ length (words_in table.now) }
-    ensures { result ≡ place_of log.now key.now (slots_of count (words_in table.now)) }
+pub(crate) fn find<E: Element>(
+    log: &[u8],
+    table: &[E],
+    count: usize,
+    key: &[u8],
+) -> Result<usize, usize>
+    requires { slot_words * count ≤ length (E.words table.now) }
+    ensures { result ≡ place_of log.now key.now (slots_of count (E.words table.now)) }
 {
     let mut low = 0;
     let mut high = count;
@@ -43,9 +47,14 @@ pub(crate) fn find(log: &[u8], table: &[u8], count: usize, key: &[u8]) -> Result
 }
 
 // A slot put in at a place that was found; gives the slots in use then. A new one that has no room leaves the table.
-pub(crate) fn enter(table: &mut [u8], count: usize, found: Result<usize, usize>, s: Slot) -> usize
-    requires { (Among count found) × (slot_words * count ≤ length (words_in table.old)) }
-    ensures { Becomes (words_in table.old) count (entered (words_in table.old) s found (slots_of count (words_in table.old))) (words_in table.new) result }
+pub(crate) fn enter<E: Element>(
+    table: &mut [E],
+    count: usize,
+    found: Result<usize, usize>,
+    s: Slot,
+) -> usize
+    requires { (Among count found) × (slot_words * count ≤ length (E.words table.old)) }
+    ensures { Becomes (E.words table.old) count (entered (E.words table.old) s found (slots_of count (E.words table.old))) (E.words table.new) result }
 {
     match found {
         Ok(i) => {
@@ -53,7 +62,7 @@ pub(crate) fn enter(table: &mut [u8], count: usize, found: Result<usize, usize>,
             count
         }
         Err(i) => {
-            if table.len() / SLOT_BYTES <= count {
+            if E::room(table) <= count {
                 return count;
             }
             insert(table, count, i, s);
@@ -63,9 +72,9 @@ pub(crate) fn enter(table: &mut [u8], count: usize, found: Result<usize, usize>,
 }
 
 // The slot at a place that was found taken out, if there is one; gives the slots in use then.
-pub(crate) fn leave(table: &mut [u8], count: usize, found: Result<usize, usize>) -> usize
-    requires { (Among count found) × (slot_words * count ≤ length (words_in table.old)) }
-    ensures { Becomes (words_in table.old) count (cut_at found (slots_of count (words_in table.old))) (words_in table.new) result }
+pub(crate) fn leave<E: Element>(table: &mut [E], count: usize, found: Result<usize, usize>) -> usize
+    requires { (Among count found) × (slot_words * count ≤ length (E.words table.old)) }
+    ensures { Becomes (E.words table.old) count (cut_at found (slots_of count (E.words table.old))) (E.words table.new) result }
 {
     match found {
         Ok(i) => {

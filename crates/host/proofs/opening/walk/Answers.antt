@@ -1,44 +1,27 @@
-use mathlib.Core.Path.{refl, ◌∙◌}
+use mathlib.Core.Path.{refl, ap, ◌∙◌}
+use Rattle.std.specs.Prelude.{Ok}
 use Rattle.host.proofs.WalkLaws.{walk_start, walk_room, walk_over, walk_full, walk_next, walk_less}
 use Rattle.host.specs.Table.{words_in}
 use Rattle.host.proofs.OpenLaws.{cleared}
 use Rattle.host.proofs.opening.walk.Goals as goal
 
-pub loop-table-init : goal.loop-table-init
-loop-table-init c = let a = c.args in (walk_start a.log.now a.used (words_in a.table.now) c.requires.1, refl)
+pub loop-next-init : goal.loop-next-init
+loop-next-init c = let a = c.args in (walk_start a.log.now a.used (words_in a.table.now) c.requires.1, refl)
 
-pub take_entry-took-requires : goal.take_entry-took-requires
-take_entry-took-requires c = (c.loop-table.invariant.0.within, c.requires.0, walk_room c.loop-table.invariant.0)
+pub take_entry-requires : goal.take_entry-requires
+take_entry-requires c = let i = c.loop-next.invariant.0 in (i.within, c.requires.0, walk_room i)
 
-pub shape_of-table-in-Over : goal.shape_of-table-in-Over
-shape_of-table-in-Over c = c.take_entry-took.auto.table ∙ c.loop-table.invariant.1
+pub loop-next-smaller : goal.loop-next-smaller
+loop-next-smaller c = walk_less c.loop-next.invariant.0 c.take_entry.ensures _ (c.in-Ok-Some.is ∙ ap Ok c.in-Ok-Some.field-0-is)
 
-pub returns-in-Over : goal.returns-in-Over
-returns-in-Over c = walk_over c.loop-table.invariant.0 c.take_entry-took.ensures c.in-Over.is
+pub loop-next-preserved : goal.loop-next-preserved
+loop-next-preserved c = (walk_next c.loop-next.invariant.0 c.take_entry.ensures _ (c.in-Ok-Some.is ∙ ap Ok c.in-Ok-Some.field-0-is), c.take_entry.auto.table ∙ c.loop-next.invariant.1)
 
-pub shape_of-table-in-Full : goal.shape_of-table-in-Full
-shape_of-table-in-Full c = c.clear.auto.table ∙ c.take_entry-took.auto.table ∙ c.loop-table.invariant.1
+pub returns-in-Ok-None : goal.returns-in-Ok-None
+returns-in-Ok-None c = walk_over c.loop-next.invariant.0 c.take_entry.ensures (c.in-Ok-None.is ∙ ap Ok c.in-Ok-None.field-0-is)
 
-pub returns-in-Full : goal.returns-in-Full
-returns-in-Full c =
-    let p = walk_full c.loop-table.invariant.0
-    c.take_entry-took.ensures c.in-Full.is in
-    record {
-      answer = p.answer;
-      table = cleared c.args.table.now
-          c.take_entry-took.new.table c.clear.ensures
-          (c.take_entry-took.auto.table
-          ∙ c.loop-table.invariant.1) ∙ p.table;
-    }
-
-pub loop-table-smaller : goal.loop-table-smaller
-loop-table-smaller c =
-    walk_less c.loop-table.invariant.0 c.take_entry-took.ensures _ _
-    c.in-Next.is
-
-pub loop-table-preserved : goal.loop-table-preserved
-loop-table-preserved c = (
-  walk_next c.loop-table.invariant.0 c.take_entry-took.ensures _ _
-      c.in-Next.is,
-  c.take_entry-took.auto.table ∙ c.loop-table.invariant.1,
-)
+pub returns-in-Err : goal.returns-in-Err
+returns-in-Err c =
+    let p = walk_full c.loop-next.invariant.0 c.take_entry.ensures _ c.in-Err.is in
+    let long = c.take_entry.auto.table ∙ c.loop-next.invariant.1 in
+    record { answer = p.answer; table = cleared c.args.table.now c.take_entry.new.table (c.fill.ensures.after (λ y e. e)) long ∙ p.table }

@@ -6,8 +6,8 @@ use Rattle.host.proofs.WalkLaws.{Walking}
 use Rattle.host.specs.Table.{words_in}
 use Rattle.host.proofs.opening.walk.Given as goal
 
-abbrev pub invariant-loop-table : goal.invariant-loop-table
-invariant-loop-table l = Walking l.log l.used (length (words_in l.initial.table)) (words_in l.table) l.at l.count × (length l.table ≡ length l.initial.table)
+abbrev pub invariant-loop-next : goal.invariant-loop-next
+invariant-loop-next l = Walking l.log l.used (length (words_in l.initial.table)) (words_in l.table) l.at l.count × (length l.table ≡ length l.initial.table)
 
-abbrev pub decreases-loop-table : goal.decreases-loop-table
-decreases-loop-table l = l.used - l.at
+abbrev pub decreases-loop-next : goal.decreases-loop-next
+decreases-loop-next l = l.used - l.at

@@ -1,8 +1,0 @@
--- `replace` lays a slot's words over another's.
-use mathlib.Core.Path.{◌∙◌}
-use Rattle.bitcask.proofs.keydir.SlotLaws.{replace_is}
-use Rattle.host.specs.Table.{words_in}
-use Rattle.host.proofs.slots.replace.Goals as goal
-
-pub returns : goal.returns
-returns c = let a = c.args in c.store.ensures ∙ replace_is (words_in a.table.now) a.count c.requires.1 a.i a.s c.requires.0
