@@ -18,8 +18,6 @@ use Rattle.keycode.specs.Number.{num}
 use Rattle.keycode.specs.Strings.{escape_byte, escape_body, step_at, fault}
 use Rattle.keycode.specs.declared.strings.Fault.{Fault}
 use Rattle.keycode.specs.declared.strings.Reason.TheVariants.{BadEscape}
-use Rattle.keycode.specs.declared.strings.Step.{Step}
-use Rattle.keycode.specs.declared.strings.Step.TheVariants.{Byte, Closed, Bad}
 use Rattle.codecs.specs.declared.fields.Kind.TheVariants.{Boolean, Unsigned, Signed, Float}
 use Rattle.rows.specs.declared.fields.Field.TheVariants.{Flag, U64, I64, F64}
 use Rattle.codecs.specs.declared.fields.Denial.{Denial}
@@ -143,26 +141,26 @@ strung_push i j b a c (got s r) e f =
     rw (l, f)
 strung_push i j b a c (bad d) e f = refl
 
-closed_reads : (i : ℕ) (r : List ℕ) → step_at i r ≡ Closed → (q : List ℕ) × (read_bytes r ≡ got [] q)
+closed_reads : (i : ℕ) (r : List ℕ) → step_at i r ≡ Ok None → (q : List ℕ) × (read_bytes r ≡ got [] q)
 unfolding step_at read_bytes
 closed_reads i [] e = nope (cc)
 closed_reads i (zero ∷ []) e = nope (cc)
 closed_reads i (zero ∷ zero ∷ r) e = (r, refl)
 closed_reads i (zero ∷ suc y ∷ r) e = go (eqb (suc y) 255) e
   where
-    go : (t : Bool) → pick t (Byte 0 (i + 2)) (Bad (fault BadEscape (i + 1))) ≡ Closed → (q : List ℕ) × (pick t (push 0 (read_bytes r)) (bad BadKey) ≡ got [] q)
+    go : (t : Bool) → ◌≡◌ {A = Result (Option (ℕ × ℕ)) Fault} (pick t (Ok (Some (0, i + 2))) (Err (fault BadEscape (i + 1)))) (Ok None) → (q : List ℕ) × (pick t (push 0 (read_bytes r)) (bad BadKey) ≡ got [] q)
     go true p = nope (cc)
     go false p = nope (cc)
 closed_reads i (suc x ∷ r) e = nope (cc)
 
-bad-reads : (i : ℕ) (r : List ℕ) (w : Fault) → step_at i r ≡ Bad w → read_bytes r ≡ bad BadKey
+bad-reads : (i : ℕ) (r : List ℕ) (w : Fault) → step_at i r ≡ Err w → read_bytes r ≡ bad BadKey
 unfolding step_at read_bytes
 bad-reads i [] w e = refl
 bad-reads i (zero ∷ []) w e = refl
 bad-reads i (zero ∷ zero ∷ r) w e = nope (cc)
 bad-reads i (zero ∷ suc y ∷ r) w e = go (eqb (suc y) 255) e
   where
-    go : (t : Bool) → pick t (Byte 0 (i + 2)) (Bad (fault BadEscape (i + 1))) ≡ Bad w → pick t (push 0 (read_bytes r)) (bad BadKey) ≡ bad BadKey
+    go : (t : Bool) → ◌≡◌ {A = Result (Option (ℕ × ℕ)) Fault} (pick t (Ok (Some (0, i + 2))) (Err (fault BadEscape (i + 1)))) (Err w) → pick t (push 0 (read_bytes r)) (bad BadKey) ≡ bad BadKey
     go true p = nope (cc)
     go false p = refl
 bad-reads i (suc x ∷ r) w e = nope (cc)
@@ -183,13 +181,13 @@ module _ {key : List ℕ} {at i : ℕ} {state : State} (w : Stringing key at i s
             ∙ strung_push i j b (awaited_by state) (awaited_by after) (read_bytes (drop j key)) a.next e;
       }
 
-  pub string_closed : (step : Step) → step ≡ step_at i (drop i key) → step ≡ Closed → (t : Bool) → t ≡ ended (awaited_by state) → Some (i, t) ≡ strung_as at (read_bytes (drop at key))
+  pub string_closed : (step : Result (Option (ℕ × ℕ)) Fault) → step ≡ step_at i (drop i key) → step ≡ Ok None → (t : Bool) → t ≡ ended (awaited_by state) → Some (i, t) ≡ strung_as at (read_bytes (drop at key))
   unfolding strung_from fed_all escape_body
   string_closed step e f t g =
       let q = closed_reads i (drop i key) (sym e ∙ f) in
       let z : i ≡ i + 0 = omega arith in
       sym (w.whole ∙ ap (strung_from i (awaited_by state)) q.1 ∙ ap (λ (k : ℕ). Some (k, ended (awaited_by state))) (sym z) ∙ ap (λ (u : Bool). Some (i, u)) (sym g))
 
-  pub string_bad : (step : Step) → step ≡ step_at i (drop i key) → (v : Fault) → step ≡ Bad v → None ≡ strung_as at (read_bytes (drop at key))
+  pub string_bad : (step : Result (Option (ℕ × ℕ)) Fault) → step ≡ step_at i (drop i key) → (v : Fault) → step ≡ Err v → None ≡ strung_as at (read_bytes (drop at key))
   unfolding strung_from
   string_bad step e v f = sym (w.whole ∙ ap (strung_from i (awaited_by state)) (bad-reads i (drop i key) v (sym e ∙ f)))

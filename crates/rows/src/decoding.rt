@@ -12,7 +12,7 @@ use codecs::{Denial, Kind};
 use keycode::Part;
 use keycode::number::get_number;
 use keycode::parts::clip;
-use keycode::strings::{Step, step_at};
+use keycode::strings::step_at;
 
 // A boolean, and the index behind it.
 fn read_flag(key: &[u8], at: usize) -> Result<(Field, usize), Denial>
@@ -46,12 +46,12 @@ fn string_at(key: &[u8], at: usize) -> Option<(usize, bool)>
     let mut i = at;
     loop {
         match step_at(key, i) {
-            Step::Byte(b, j) => {
+            Ok(Some((b, j))) => {
                 state = feed(state, b);
                 i = j;
             }
-            Step::Closed => return Some((i, closed(state))),
-            Step::Bad(_) => return None,
+            Ok(None) => return Some((i, closed(state))),
+            Err(_) => return None,
         }
     }
 }

@@ -1,4 +1,5 @@
-use mathlib.Core.Path.{refl}
+use mathlib.Core.Path.{refl, ap, ◌∙◌}
+use Rattle.std.specs.Prelude.{Ok}
 use native.Mathlib.Omega.{arith}
 use Rattle.keycode.proofs.StringLaws.{at_byte, step_on_lem}
 use Rattle.rows.proofs.ReadLaws.{string_begin, string_next, string_closed, string_bad}
@@ -15,22 +16,22 @@ loop-b-smaller c =
     let a = c.args in
     let a = at_byte a.key.now c.loop-b.i
     c.loop-b.invariant.upto _ c.step_at.ensures
-    c.in-Byte.b c.in-Byte.j c.in-Byte.is in omega
+    c.in-Ok-Some.b c.in-Ok-Some.j (c.in-Ok-Some.is ∙ ap Ok c.in-Ok-Some.field-0-is) in omega
     (arith, step_on_lem a, a.within)
 
 pub loop-b-preserved : goal.loop-b-preserved
 loop-b-preserved c =
     let a = c.args in
-    string_next c.loop-b.invariant c.in-Byte.b
-    c.in-Byte.j c.feed-state.result
+    string_next c.loop-b.invariant c.in-Ok-Some.b
+    c.in-Ok-Some.j c.feed-state.result
     (at_byte a.key.now c.loop-b.i
-    c.loop-b.invariant.upto _ c.step_at.ensures _ _ c.in-Byte.is)
+    c.loop-b.invariant.upto _ c.step_at.ensures _ _ (c.in-Ok-Some.is ∙ ap Ok c.in-Ok-Some.field-0-is))
     c.feed-state.ensures
 
-pub returns-in-Closed : goal.returns-in-Closed
-returns-in-Closed c =
+pub returns-in-Ok-None : goal.returns-in-Ok-None
+returns-in-Ok-None c =
     string_closed c.loop-b.invariant _ c.step_at.ensures
-    c.in-Closed.is _ c.closed.ensures
+    (c.in-Ok-None.is ∙ ap Ok c.in-Ok-None.field-0-is) _ c.closed.ensures
 
-pub returns-in-Bad : goal.returns-in-Bad
-returns-in-Bad c = string_bad c.loop-b.invariant _ c.step_at.ensures _ c.in-Bad.is
+pub returns-in-Err : goal.returns-in-Err
+returns-in-Err c = string_bad c.loop-b.invariant _ c.step_at.ensures _ c.in-Err.is
