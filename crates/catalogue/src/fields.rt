@@ -1,7 +1,7 @@
 // Fields and kinds of the words of a request.
 use crate::digits::{number, unhex};
 use keycode::Part;
-use rows::{Cell, Field, Kind, KindCell, Kinds, Row};
+use rows::{Field, Kind};
 use std::alloc::{AllocError, Global};
 
 // The part of the texts that a word's digits make, put behind those of other words.
@@ -51,48 +51,20 @@ fn kind_of(word: &[u8]) -> Kind {
     }
 }
 
-// The first eight of some cells, and blank ones where there are fewer.
-fn first_eight<T: Copy>(cells: &[T], blank: T) -> [T; 8] {
-    let mut front = [blank; 8];
-    for (place, cell) in front.iter_mut().zip(cells) {
-        *place = *cell;
-    }
-    front
-}
-
-// The row of some words; one of more than eight is refused by its count. The bytes of its strings are put into the texts.
-pub(crate) fn row_of(
+// The fields of some words; of more than eight the call refuses the row. The bytes of its strings are put into the texts.
+pub(crate) fn fields_of(
     alloc: Global,
     words: &[&[u8]],
     texts: &mut Vec<u8>,
-) -> Result<Row, AllocError> {
-    let mut cells = Vec::new(alloc);
+) -> Result<Vec<Field>, AllocError> {
+    let mut fields = Vec::new(alloc);
     for word in words {
-        let field = field_of(word, texts)?;
-        cells.push(Cell { field })?;
+        fields.push(field_of(word, texts)?)?;
     }
-    let blank = Cell {
-        field: Field::Flag(false),
-    };
-    Ok(Row {
-        cells: first_eight(&cells, blank),
-        len: cells.len(),
-    })
+    Ok(fields)
 }
 
 // The kinds of some words.
-pub(crate) fn kinds_of(alloc: Global, words: &[&[u8]]) -> Result<Kinds, AllocError> {
-    let cells: Vec<KindCell> = words
-        .iter()
-        .map(|word| KindCell {
-            kind: kind_of(word),
-        })
-        .collect(alloc)?;
-    let blank = KindCell {
-        kind: Kind::Boolean,
-    };
-    Ok(Kinds {
-        cells: first_eight(&cells, blank),
-        len: cells.len(),
-    })
+pub(crate) fn kinds_of(alloc: Global, words: &[&[u8]]) -> Result<Vec<Kind>, AllocError> {
+    words.iter().map(|word| kind_of(word)).collect(alloc)
 }

@@ -1,7 +1,7 @@
 // A line of standard input, and what it asks of the two calls.
 use crate::answers::{Outcome, Spelt};
 use crate::digits::{decimal, unhex};
-use crate::fields::{kinds_of, row_of};
+use crate::fields::{fields_of, kinds_of};
 use crate::lines::words_of;
 use rows::{decode_row, encode_row};
 use std::alloc::{AllocError, Global};
@@ -17,9 +17,9 @@ const MOST: usize = 16384;
 
 fn encode(alloc: Global, room: &[u8], fields: &[&[u8]]) -> Result<String, AllocError> {
     let mut texts = Vec::new(alloc);
-    let row = row_of(alloc, fields, &mut texts)?;
+    let row = fields_of(alloc, fields, &mut texts)?;
     let mut buffer = vec![in alloc; MARK; decimal(room).min(ROOM)]?;
-    let outcome = Outcome(encode_row(row, &texts, &mut buffer));
+    let outcome = Outcome(encode_row(&row, &texts, &mut buffer));
     if buffer.is_empty() {
         return format!(in alloc; "{outcome} -");
     }
@@ -32,11 +32,12 @@ fn decode(alloc: Global, digits: &[u8], kinds: &[&[u8]]) -> Result<String, Alloc
     if !digits.starts_with(b"-") {
         unhex(digits, &mut key)?;
     }
-    let read = decode_row(kinds_of(alloc, kinds)?, &key);
-    let row = read.row;
-    let mut answer = format!(in alloc; "{}", Outcome(read.check.map(|()| row.len)))?;
-    for cell in row.cells.iter().take(row.len) {
-        write!(answer, "{}", Spelt(cell.field))?;
+    let read = decode_row(&kinds_of(alloc, kinds)?, &key);
+    let mut answer = format!(in alloc; "{}", Outcome(read.map(|row| row.len)))?;
+    if let Ok(row) = read {
+        for field in row.fields() {
+            write!(answer, "{}", Spelt(*field))?;
+        }
     }
     Ok(answer)
 }
