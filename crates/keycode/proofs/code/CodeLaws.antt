@@ -3,9 +3,9 @@ use Prim.Native.Nat.{ℕ, ◌≤◌}
 use mathlib.Core.Path.{◌≡◌, refl, sym, ap, ◌∙◌}
 use mathlib.Core.List.{List, ◌∷◌, ◌++◌}
 use native.Mathlib.Omega.{arith}
-use lib.ListN.{length, take, drop}
+use lib.ListN.{length, take, drop, length-append, length-drop}
 use lib.Seq.{take_at}
-use Rattle.std.specs.Prelude.{Result, ℕ, Ok, Err}
+use Rattle.std.specs.Prelude.{Result, ℕ, Ok, replicate}
 use Rattle.keycode.specs.Limits.{max_key}
 use Rattle.keycode.specs.Number.{be}
 use Rattle.keycode.specs.key.Keys.{encode, next_version, txn_write, version, unversioned}
@@ -27,11 +27,14 @@ code_made s e d b {got} hs he full kept w q =
     rw (q, done)
     (record { whole = kept ∙ full; within = he; says = ap (take (length e)) laid ∙ take_at e (drop (length e) d) (length e) refl })
 
-pub coded_done : {a : Result ℕ Refusal} (n : ℕ) (b : List ℕ) → a ≡ Ok n → record { len = n; bytes = b } ≡ code_of a b
-coded_done n b e = rw e
-
-pub coded_none : {a : Result ℕ Refusal} (r : Refusal) (b : List ℕ) → a ≡ Err r → record { len = 0; bytes = b } ≡ code_of a b
-coded_none r b e = rw e
+-- the same of an encoder that was lent zeros
+pub code_coded : (s e b : List ℕ) (got : Result ℕ Refusal) {r : Code} → length s ≤ max_key → length e ≤ key_bytes → Encodes s e (replicate key_bytes 0) got b → r ≡ code_of got b → Codes r e
+code_coded s e b got hs he w q =
+    let d : List ℕ = replicate key_bytes 0 in
+    let done : got ≡ Ok (length e) = w.answer ∙ sym (measure_done s (length e) (length d) (length e) refl hs he) in
+    let laid : b ≡ e ++ drop (length e) d = rw done at w.buffer in
+    let kept : length b ≡ key_bytes = ap length laid ∙ length-append e (drop (length e) d) ∙ omega (arith, length-drop (length e) d) in
+    code_made s e d b hs he refl kept w q
 
 pub next_fits : length (encode next_version) ≤ key_bytes
 next_fits = omega arith

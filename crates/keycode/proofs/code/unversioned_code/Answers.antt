@@ -1,7 +1,8 @@
 -- `unversioned_code`: the code of Unversioned.
-use mathlib.Core.Path.{refl}
-use Rattle.keycode.proofs.code.CodeLaws.{code_made, unversioned-fits}
+use Rattle.std.proofs.Common.{rules}
+use Rattle.keycode.specs.key.Keys.{encode, unversioned}
+use Rattle.keycode.proofs.code.CodeLaws.{code_coded, unversioned-fits}
 use Rattle.keycode.proofs.code.unversioned_code.Goals as goal
 
 pub returns : goal.returns
-returns c = code_made c.args.key.now _ _ _ c.requires (unversioned-fits c.args.key.now c.requires) refl c.encode_unversioned-answer.auto.out c.encode_unversioned-answer.ensures c.coded.ensures
+returns c = let w = c.coded.ensures in code_coded c.args.key.now (encode (unversioned c.args.key.now)) w.1 w.0 c.requires (unversioned-fits c.args.key.now c.requires) (search rules) w.3

@@ -1,7 +1,8 @@
 -- `version_code`: the code of Version.
-use mathlib.Core.Path.{refl}
-use Rattle.keycode.proofs.code.CodeLaws.{code_made, version-fits}
+use Rattle.std.proofs.Common.{rules}
+use Rattle.keycode.specs.key.Keys.{encode, version}
+use Rattle.keycode.proofs.code.CodeLaws.{code_coded, version-fits}
 use Rattle.keycode.proofs.code.version_code.Goals as goal
 
 pub returns : goal.returns
-returns c = code_made c.args.key.now _ _ _ c.requires (version-fits c.args.key.now c.requires _) refl c.encode_version-answer.auto.out c.encode_version-answer.ensures c.coded.ensures
+returns c = let w = c.coded.ensures in code_coded c.args.key.now (encode (version c.args.key.now c.args.version)) w.1 w.0 c.requires (version-fits c.args.key.now c.requires _) (search rules) w.3
