@@ -7,9 +7,8 @@ ghost use Rattle.bitcask.specs.merging.Merge.{gone_mark};
 ghost use Rattle.bitcask.specs.recovery.Waiting.{max_waiting};
 ghost use Rattle.bitcask.specs.recovery.Passing.{TakesEntry, GoesOver, Passes};
 
-use crate::entry::{Lengths, entry_at};
+use crate::entry::{GONE, Lengths, entry_at};
 use crate::keydir::{SLOT_WORDS, Slot};
-use crate::merging::GONE;
 use crate::recovery::waiting::{Held, MAX_WAITING, Next, make_room, settle, take_del, take_set};
 use keycode::Refusal;
 
