@@ -4,5 +4,6 @@ pub mod SignLaws
 pub mod FloatLaws
 pub mod KindLaws
 pub mod Utf8Laws
+pub mod TextLaws
 pub mod StateLaws
 pub mod CastLaws

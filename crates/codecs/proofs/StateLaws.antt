@@ -1,18 +1,16 @@
 -- What the code of the UTF-8 test knows at each of its ways out. Assumes nothing.
-use Prim.Native.Nat.{ℕ, ◌+◌, ◌≤◌, ◌<◌}
-use mathlib.Core.Path.{◌≡◌, refl, sym, ◌∙◌}
+use Prim.Native.Nat.{ℕ, ◌≤◌, ◌<◌}
+use mathlib.Core.Path.{◌≡◌, refl, sym}
 use mathlib.Core.Bool.{Bool, true, false}
 use mathlib.Core.List.{List, [], ◌∷◌}
 use native.Mathlib.Decide.{dec_le}
 use native.Mathlib.Omega.{arith}
-use native.Mathlib.Numerals.{add-one}
 use lib.Dec.{leb}
-use lib.ListN.{length, drop, get_or, drop_of_length-le}
-use lib.Seq.{drop-cons}
+use lib.ListN.{drop}
 use borrow.Author.Tests.{lt-leb}
 use Rattle.keycode.specs.Tests.{pick}
 use Rattle.codecs.specs.declared.utf8.State.{State}
-use Rattle.codecs.specs.Utf8.{Span, span, tail, table, here, there, Awaited, await, never, within, begun, fed, fed_all, ended, well_formed}
+use Rattle.codecs.specs.Utf8.{Span, span, tail, table, here, there, Awaited, await, never, within, begun, fed}
 use Rattle.codecs.specs.States.{awaited_by}
 use Rattle.codecs.proofs.Utf8Laws.{row_begun, table-rises, Over}
 
@@ -85,14 +83,3 @@ module _ (x : ℕ) where
 -- by the state that the code has matched
 pub feed_as : (s k : State) (b : ℕ) (a : Awaited) → s ≡ k → a ≡ fed (awaited_by k) b → a ≡ fed (awaited_by s) b
 feed_as s k b a e f = rw e f
-
--- ---- the loop
-
-pub utf8_turn : (s : List ℕ) (i : ℕ) (a b : State) → i < length s → awaited_by b ≡ fed (awaited_by a) (get_or s i 0) → fed_all (await []) s ≡ fed_all (awaited_by a) (drop i s)
-    → fed_all (await []) s ≡ fed_all (awaited_by b) (drop (i + 1) s)
-unfolding fed_all
-utf8_turn s i a b h e w = w ∙ rw (add-one i, drop-cons s i 0 h, e)
-
-pub utf8_end : (s : List ℕ) (i : ℕ) (a : State) (r : Bool) → length s ≤ i → fed_all (await []) s ≡ fed_all (awaited_by a) (drop i s) → r ≡ ended (awaited_by a) → r ≡ well_formed s
-unfolding well_formed fed_all
-utf8_end s i a r h w e = e ∙ rw (w, drop_of_length-le s h)
