@@ -16,7 +16,8 @@ const SLOTS: usize = 304;
 // The answers of one record: a scan of as many pairs as the table has slots, and the record behind them.
 const ANSWERS: usize = 32896;
 
-// The first `used` bytes of a buffer are the log: of the second where `other` is told.
+// The first `used` bytes of a buffer are the log: of the second where `other` is told. By hand: crate tape's `take` is given both and this
+// flag, and tells the flag again.
 #[derive(Drop)]
 pub(crate) struct Store {
     first: [u8; LOG],

@@ -3,6 +3,7 @@ ghost use Rattle.std.specs.Prelude.{◌<◌};
 
 use std::alloc::AllocError;
 
+// By hand: `to_digit` and crate hex refuse a byte that is no digit, and here it counts as one.
 fn nibble(digit: u8) -> u8
     ensures { result < 16 }
 {

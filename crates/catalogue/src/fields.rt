@@ -22,6 +22,7 @@ fn longer(part: Part) -> Part {
     }
 }
 
+// By hand: a letter is how a line spells a kind, and no more than this and `kind_of` reads one; an enum of letters would be matched twice.
 fn field_of(word: &[u8], texts: &mut Vec<u8>) -> Result<Field, AllocError> {
     let (letter, rest) = match word {
         [letter, rest @ ..] => (*letter, rest),
