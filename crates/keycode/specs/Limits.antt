@@ -1,4 +1,4 @@
--- The limits of document 01, 'Sizes', for all layers. The code's are in src/limits.rt; the proofs fail where the two differ.
+-- The limits, for all layers. The code's are in src/limits.rt; the proofs fail where the two differ.
 -- Assumes nothing.
 use Rattle.std.specs.Prelude.{ℕ}
 

@@ -1,4 +1,4 @@
--- Numbers as big-endian bytes of any width. Document 01, 'Key bytes': a u64 is eight such bytes; an entry's lengths are four each.
+-- Numbers as big-endian bytes of any width. A u64 is eight such bytes; an entry's lengths are four each.
 -- Assumes nothing.
 use Rattle.std.specs.Prelude.{ℕ, zero, suc, ◌+◌, ◌*◌, ◌/◌, ◌%◌, ◌^◌, List, [], ◌∷◌}
 

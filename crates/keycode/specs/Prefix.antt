@@ -1,4 +1,4 @@
--- The range of the byte strings that begin with a prefix, and what a user prefix is searched as. Document 01, 'Key bytes'.
+-- The range of the byte strings that begin with a prefix, and what a user prefix is searched as.
 -- Assumes nothing.
 use Rattle.std.specs.declared.cmp.Ordering.TheVariants.{Less}
 use Rattle.std.specs.Prelude.{ℕ, suc, ◌≡◌, List, [], ◌∷◌, ◌++◌, take, ltb, Option, Some, None}

@@ -1,4 +1,4 @@
--- The numbers of document 01, 'Numbers returned', and the number of an answer that holds a refusal. Assumes nothing.
+-- The numbers of the refusals, and the number of an answer that holds a refusal. Assumes nothing.
 use Rattle.std.specs.Prelude.{ℕ, Result, Ok, Err}
 use Rattle.keycode.specs.declared.refusal.Refusal.{Refusal}
 use Rattle.keycode.specs.declared.refusal.Refusal.TheVariants.{Absent, ReadOnly, NotOpen, KeyTooLong, ValueTooLong, Conflict, LogFull, TableFull, TooManyOpen, NoSuchVersion, VersionsSpent, BadStore, BadRequest}

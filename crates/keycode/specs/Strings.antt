@@ -1,4 +1,4 @@
--- Byte strings inside keys. Document 01, 'Key bytes': each 00 of the string becomes 00 ff, then 00 00 ends it; any other byte
+-- Byte strings inside keys: each 00 of the string becomes 00 ff, then 00 00 ends it; any other byte
 -- after 00, or no end, is a fault. What a fault is and at which byte it shows is told here, for the decoder. Assumes nothing.
 use Rattle.keycode.specs.declared.refusal.Refusal.{Refusal}
 use Rattle.std.specs.Prelude.{ℕ, zero, suc, ◌+◌, Bool, true, false, List, [], ◌∷◌, ◌++◌, length, eqb, leb, Result, Ok, Err, Option, Some, None}

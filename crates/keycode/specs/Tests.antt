@@ -7,7 +7,7 @@ abbrev pub pick : {A : Type 0} → Bool → A → A → A
 pick true a b = a
 pick false a b = b
 
--- what a call leaves: the first with number 0, the second with every other. Document 01, 'Numbers returned': every number but 0
+-- what a call leaves: the first with number 0, the second with every other. Every number but 0
 -- leaves what was lent as it was, and the place or count that comes with it is empty.
 abbrev pub if_done : {A : Type 0} → ℕ → A → A → A
 if_done zero a b = a

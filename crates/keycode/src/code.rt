@@ -14,7 +14,7 @@ use crate::limits::KEY_BYTES;
 use crate::parts::clip;
 use crate::refusal::Refusal;
 
-// The first `len` bytes are the key's.
+// The first `len` bytes are the key's. No `==`: codes of one key may differ behind it, and their slices are what is compared.
 #[derive(Clone, Copy)]
 pub struct Code {
     pub len: usize,

@@ -1,4 +1,4 @@
-// The limits of document 01, 'Sizes', for all layers. specs/Limits.antt has the same numbers for the contracts.
+// The limits, for all layers. specs/Limits.antt has the same numbers for the contracts.
 // User keys and user values, in bytes.
 pub const MAX_KEY: usize = 64;
 

@@ -3,7 +3,7 @@ ghost use Rattle.std.specs.Prelude.{◌≡◌, ◌+◌, ◌≤◌, ◌<◌, ◌^
 ghost use Rattle.keycode.specs.Number.{be, num};
 ghost use Rattle.keycode.specs.Buffer.{put};
 
-// Writes v as `width` bytes, most significant first, from index at on.
+// Writes v as `width` bytes, most significant first, from index at on. By hand: `to_be_bytes` gives eight, and a width may be any.
 pub fn put_number(v: u64, width: usize, out: &mut [u8], at: usize)
     requires { (v < 256 ^ width) × (at + width ≤ length out.old) }
     ensures { out.new ≡ put out.old at (be width v) }

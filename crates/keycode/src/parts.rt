@@ -3,7 +3,7 @@ ghost use Rattle.std.specs.Prelude.{◌≡◌, take, drop};
 
 // A part of lent bytes: where it starts, and how many bytes it has. A string in a key is the part of its escaped bytes, the closing
 // 00 00 not counted.
-#[derive(Clone, Copy)]
+#[derive(Clone, Copy, Debug, PartialEq, Eq)]
 pub struct Part {
     pub at: usize,
     pub len: usize,

@@ -3,7 +3,7 @@ ghost use Rattle.std.specs.Prelude.{◌≡◌};
 ghost use Rattle.keycode.specs.Prefix.{prefix_end};
 
 // The first `keep` bytes of the prefix and then the byte `last`.
-#[derive(Clone, Copy)]
+#[derive(Clone, Copy, Debug, PartialEq, Eq)]
 pub struct End {
     pub keep: usize,
     pub last: u8,

@@ -10,7 +10,7 @@ use crate::limits::MAX_KEY;
 use crate::refusal::Refusal;
 
 // Why bytes are no key.
-#[derive(Clone, Copy)]
+#[derive(Clone, Copy, Debug, PartialEq, Eq)]
 pub enum Reason {
     TooFew,
     BadEscape,
@@ -21,7 +21,7 @@ pub enum Reason {
 }
 
 // A reason, and the first byte that decides: the key's length where bytes are missing.
-#[derive(Clone, Copy)]
+#[derive(Clone, Copy, Debug, PartialEq, Eq)]
 pub struct Fault {
     pub reason: Reason,
     pub at: usize,

@@ -1,4 +1,4 @@
--- Encoded keys by value: a buffer long enough for any key, and how much of it is the key. Document 01, 'Key bytes'. Assumes nothing.
+-- Encoded keys by value: a buffer long enough for any key, and how much of it is the key. Assumes nothing.
 use Rattle.keycode.specs.declared.refusal.Refusal.{Refusal}
 use Rattle.std.specs.Prelude.{ℕ, ◌+◌, ◌*◌, ◌≤◌, ◌≡◌, List, length, take, Result, Ok, Err}
 use Rattle.keycode.specs.Limits.{max_key}

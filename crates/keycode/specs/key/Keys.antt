@@ -1,4 +1,4 @@
--- The six keys of the store: their bytes, and what bytes are a key or why they are none. Document 01, 'Key bytes'. Assumes nothing.
+-- The six keys of the store: their bytes, and what bytes are a key or why they are none. Assumes nothing.
 use Rattle.keycode.specs.declared.strings.Fault.{Fault}
 use Rattle.keycode.specs.declared.refusal.Refusal.{Refusal}
 use Rattle.std.specs.Prelude.{ℕ, zero, suc, ◌+◌, ◌-◌, List, [], ◌∷◌, ◌++◌, length, take, drop, leb, Result, Ok, Err}
@@ -82,7 +82,7 @@ unfoldable pub decode_why : ℕ → List ℕ → Result Key Fault
 decode_why limit [] = Err (fault TooFew 0)
 decode_why limit (t ∷ r) = key_of limit t (t ∷ r)
 
--- document 01's answer: the key, or 12 whatever the fault
+-- what `decode` answers: the key, or 12 whatever the fault
 abbrev pub forget : Result Key Fault → Result Key Refusal
 forget (Ok k) = Ok k
 forget (Err w) = Err BadStore
