@@ -7,7 +7,7 @@ use native.Mathlib.Numerals.{add-one}
 use native.Mathlib.Omega.{arith}
 use lib.ListN.{length, drop, get_or, drop_of_length-le}
 use lib.Seq.{drop-cons}
-use borrow.Author.Tests.{eq-eqb, eqb-true, ne_eqb, lt-ltb, le-ltb, ltb-true, ltb-false}
+use borrow.Author.Tests.{eq-eqb, eqb-true, ne_eqb, ltb-true, ltb-false}
 use lib.Dec.{eqb, ltb}
 use Rattle.std.specs.List.{All}
 use Rattle.bitcask.proofs.recovery.AgreeLaws.{both}
@@ -107,15 +107,6 @@ module _ (log : List ℕ) (ss : List Slot) (i : ℕ) where
 -- ---- the entry at an offset
 
 module _ (log : List ℕ) (used at : ℕ) {r : Option Lengths} (e : r ≡ entry_at log used at) where
-  pub ahead_set : (k v : ℕ) → r ≡ (Some (Set k v)) → Some (record { slot = record { place = at + 1; klen = k; vlen = v }; gone = false }) ≡ ahead_of (item_of (entry_at log used at) at)
-  ahead_set k v f = rw (← e, f, add-one)
-
-  pub ahead_del : (k : ℕ) → r ≡ (Some (Del k)) → Some (record { slot = record { place = at + 1; klen = k; vlen = 0 }; gone = true }) ≡ ahead_of (item_of (entry_at log used at) at)
-  ahead_del k f = rw (← e, f, add-one)
-
-  pub ahead_stop : r ≡ None → None ≡ ahead_of (item_of (entry_at log used at) at)
-  ahead_stop f = rw (← e, f)
-
   pub set_near : (k v : ℕ) → r ≡ (Some (Set k v)) → at + 8 + k + v ≤ used
   set_near k v f = let w = item_stands log used at (record { slot = record { place = at + 1; klen = k; vlen = v }; gone = false }) (rw (← e, f)) in let n = w.near in omega arith
 
@@ -180,35 +171,6 @@ pub later-from : (log key : List ℕ) (used : ℕ) {p q : ℕ} {b : Bool} → p 
 later-from log key used e f = f ∙ ap (λ (x : ℕ). later_in log key (items log used x)) e
 
 -- ---- an entry judged
-
-module _ (s x : Slot) (g : Bool) where
-  pub against-early : x.place < s.place → Early ≡ against s x g
-  unfolding against
-  against-early h = rw (lt-ltb x.place s.place h)
-
-  module _ (h : s.place ≤ x.place) where
-    pub against-gone : g ≡ true → Wrong ≡ against s x g
-    unfolding against
-    against-gone e = rw (le-ltb x.place s.place h, e)
-
-    module _ (e : g ≡ false) where
-      pub against-place : (s.place ≡ x.place → ⊥) → Wrong ≡ against s x g
-      unfolding against
-      against-place n = rw (le-ltb x.place s.place h, e, ne_eqb s.place x.place n)
-
-      module _ (p : s.place ≡ x.place) where
-        pub against_klen : (s.klen ≡ x.klen → ⊥) → Wrong ≡ against s x g
-        unfolding against
-        against_klen n = rw (le-ltb x.place s.place h, e, eq-eqb s.place x.place p, ne_eqb s.klen x.klen n)
-
-        module _ (k : s.klen ≡ x.klen) where
-          pub against_vlen : (s.vlen ≡ x.vlen → ⊥) → Wrong ≡ against s x g
-          unfolding against
-          against_vlen n = rw (le-ltb x.place s.place h, e, eq-eqb s.place x.place p, eq-eqb s.klen x.klen k, ne_eqb s.vlen x.vlen n)
-
-          pub against-exact : s.vlen ≡ x.vlen → Exact ≡ against s x g
-          unfolding against
-          against-exact v = rw (le-ltb x.place s.place h, e, eq-eqb s.place x.place p, eq-eqb s.klen x.klen k, eq-eqb s.vlen x.vlen v)
 
 module _ (log t : List ℕ) (n : ℕ) (s : Seen) (is : List Item) {key : List ℕ} {f : Result ℕ ℕ} (k : key ≡ key_of log s.slot) (e : f ≡ place_of log key (slots_of n t)) where
   placed : f ≡ place_of log (key_of log s.slot) (slots_of n t)

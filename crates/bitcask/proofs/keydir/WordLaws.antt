@@ -154,8 +154,3 @@ module _ (l : List ℕ) (at end : ℕ) (h : at ≤ end) (g : end ≤ length l) {
       let n : length (take (end - at) (drop at l)) ≡ end - at = length-take-le (end - at) (drop at l) (omega arith) in
       let r : length (replicate {A = ℕ} (end - at) 0) ≡ end - at = length-replicate (end - at) 0 in
       rw (e, n, drop-drop (end - at) at l, r) (simp append_assoc)
-
-  pub cleared-long : length (take at l ++ (x ++ drop (end - at) (drop at l))) ≡ length l
-  cleared-long =
-      let r : length (replicate {A = ℕ} (end - at) 0) ≡ end - at = length-replicate (end - at) 0 in
-      ap length cleared ∙ length-put l at (replicate (end - at) 0) (omega arith)
