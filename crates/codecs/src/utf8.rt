@@ -43,7 +43,7 @@ fn begin(b: u8) -> State
     }
 }
 
-// The state `then` behind a byte of a range.
+// The state `then` behind a byte of a range. A pattern over both state and byte would be no plainer: it leaves two rests for each state.
 fn inside(b: u8, low: u8, high: u8, then: State) -> State
     ensures { awaited_by result ≡ pick (within (span low high) b) (awaited_by then) never }
 {
