@@ -12,6 +12,7 @@ use mir.Syntax.{w64}
 use mir.Val.{SFits, to_z, of_z}
 use mir.ValLaws.{to_z-of_z}
 use borrow.Author.Tests.{le-leb, lt-leb, ltb-true, ltb-false}
+use Rattle.std.specs.Result.{result_ok}
 use Rattle.std.specs.Prelude.{Result, Ok, Err, Option, Some, None}
 use Rattle.keycode.specs.Tests.{pick}
 use Rattle.keycode.specs.Number.{num}
@@ -160,10 +161,19 @@ bad-reads i (zero ∷ []) w e = refl
 bad-reads i (zero ∷ zero ∷ r) w e = nope (cc)
 bad-reads i (zero ∷ suc y ∷ r) w e = go (eqb (suc y) 255) e
   where
-    go : (t : Bool) → ◌≡◌ {A = Result (Option (ℕ × ℕ)) Fault} (pick t (Ok (Some (0, i + 2))) (Err (fault BadEscape (i + 1)))) (Err w) → pick t (push 0 (read_bytes r)) (bad BadKey) ≡ bad BadKey
+    go : (t : Bool) → pick {A = Result (Option (ℕ × ℕ)) Fault} t (Ok (Some (0, i + 2))) (Err (fault BadEscape (i + 1))) ≡ Err w → pick t (push 0 (read_bytes r)) (bad BadKey) ≡ bad BadKey
     go true p = nope (cc)
     go false p = refl
 bad-reads i (suc x ∷ r) w e = nope (cc)
+
+-- what is left of a step whose fault is not told
+pub step_some : {A B : Type 0} (r : Result A B) (o : Option A) (a : A) → o ≡ result_ok r → o ≡ Some a → r ≡ Ok a
+step_some {A = A} (Ok b) o a e h = let z : ◌≡◌ {A = Option A} (Some b) (Some a) = sym e ∙ h in cc
+step_some {A = A} (Err x) o a e h = let z : ◌≡◌ {A = Option A} None (Some a) = sym e ∙ h in nope (cc)
+
+pub step_none : {A B : Type 0} (r : Result A B) (o : Option A) → o ≡ result_ok r → o ≡ None → (x : B) × (r ≡ Err x)
+step_none {A = A} (Ok b) o e h = let z : ◌≡◌ {A = Option A} (Some b) None = sym e ∙ h in nope (cc)
+step_none (Err x) o e h = (x, refl)
 
 pub record Stringing (key : List ℕ) (at i : ℕ) (state : State) : Type 0 where
   pub upto : i ≤ length key

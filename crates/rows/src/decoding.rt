@@ -44,16 +44,11 @@ fn string_at(key: &[u8], at: usize) -> Option<(usize, bool)>
 {
     let mut state = State::Start;
     let mut i = at;
-    loop {
-        match step_at(key, i) {
-            Ok(Some((b, j))) => {
-                state = feed(state, b);
-                i = j;
-            }
-            Ok(None) => return Some((i, closed(state))),
-            Err(_) => return None,
-        }
+    while let Some((b, j)) = step_at(key, i).ok()? {
+        state = feed(state, b);
+        i = j;
     }
+    Some((i, closed(state)))
 }
 
 // A byte string, and the index behind it.

@@ -6,7 +6,7 @@ use keycode::Part;
 
 // A field's value. A float is its 64-bit pattern. Bytes and a text are a part of the lent slice: the string itself where a row is
 // encoded, its escaped bytes with no end where one was decoded.
-#[derive(Clone, Copy)]
+#[derive(Clone, Copy, Debug, PartialEq, Eq)]
 pub enum Field {
     Flag(bool),
     U64(u64),
@@ -17,7 +17,7 @@ pub enum Field {
 }
 
 // Room for the fields of a row, at most eight, and how many of them stand in it: there is no heap to hold a `Vec`.
-#[derive(Clone, Copy)]
+#[derive(Clone, Copy, Debug, PartialEq, Eq)]
 pub struct Row {
     pub cells: [Field; 8],
     pub len: usize,
