@@ -18,10 +18,7 @@ pub(crate) fn live(log: &[u8], table: &[u32], mark: Mark, key: &[u8]) -> bool
     requires { Held log.now table.now mark }
     ensures { result ≡ has_row key.now (rows log.now table.now mark) }
 {
-    match find(log, table, mark, key) {
-        Ok(_) => true,
-        Err(_) => false,
-    }
+    find(log, table, mark, key).is_ok()
 }
 
 // Whether a handle's transaction is open.
@@ -49,18 +46,13 @@ pub(crate) fn open(log: &[u8], table: &[u32], mark: Mark, handle: Handle) -> boo
 pub(crate) fn admit(log: &[u8], used: Used, table: &[u32], handle: Handle) -> Result<Mark, Refusal>
     ensures { Admits log.now used table.now handle result }
 {
-    match enter(log, used, table) {
-        Err(r) => Err(r),
-        Ok(mark) => {
-            let sound = handle.sound();
-            if !sound {
-                return Err(Refusal::BadRequest);
-            }
-            if open(log, table, mark, handle) {
-                Ok(mark)
-            } else {
-                Err(Refusal::NotOpen)
-            }
-        }
+    let mark = enter(log, used, table)?;
+    if !handle.sound() {
+        return Err(Refusal::BadRequest);
+    }
+    if open(log, table, mark, handle) {
+        Ok(mark)
+    } else {
+        Err(Refusal::NotOpen)
     }
 }

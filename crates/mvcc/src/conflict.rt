@@ -21,15 +21,11 @@ use keycode::code::version_code;
 fn met(handle: Handle, key: &[u8]) -> Result<(), Refusal>
     ensures { result ≡ seen_bytes handle key.now }
 {
-    match version_of(key) {
-        None => Err(Refusal::BadStore),
-        Some(v) => {
-            if handle.sees(v) {
-                Ok(())
-            } else {
-                Err(Refusal::Conflict)
-            }
-        }
+    let version = version_of(key).ok_or(Refusal::BadStore)?;
+    if handle.sees(version) {
+        Ok(())
+    } else {
+        Err(Refusal::Conflict)
     }
 }
 

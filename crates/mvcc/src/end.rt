@@ -31,21 +31,17 @@ pub(crate) fn finish(
 ) -> Result<Used, Refusal>
     ensures { Ends way log.old used.len table.old handle result log.new table.new }
 {
-    match admit(log, used, table, handle) {
-        Err(r) => Err(r),
-        Ok(mark) => {
-            if handle.read_only {
-                return Ok(used);
-            }
-            let version = handle.version;
-            let span = write_span(log, table, mark, version);
-            let code = active_code(version);
-            let bytes = code.bytes;
-            let n = code.len;
-            match way {
-                Way::Commit => clear(log, table, mark, span, &bytes[..n]),
-                Way::Rollback => undo(log, table, mark, span, version, &bytes[..n]),
-            }
-        }
+    let mark = admit(log, used, table, handle)?;
+    if handle.read_only {
+        return Ok(used);
+    }
+    let version = handle.version;
+    let span = write_span(log, table, mark, version);
+    let code = active_code(version);
+    let bytes = code.bytes;
+    let n = code.len;
+    match way {
+        Way::Commit => clear(log, table, mark, span, &bytes[..n]),
+        Way::Rollback => undo(log, table, mark, span, version, &bytes[..n]),
     }
 }

@@ -18,18 +18,12 @@ pub struct Versions {
 pub fn status(log: &[u8], used: Used, table: &[u32]) -> Result<Versions, Refusal>
     ensures { States log.now used.len table.now result }
 {
-    match enter(log, used, table) {
-        Err(r) => Err(r),
-        Ok(mark) => match next_version(log, table, mark) {
-            None => Err(Refusal::BadStore),
-            Some(next) => {
-                let span = open_span(log, table, mark);
-                let open = rows_in(log, table, mark, span);
-                Ok(Versions {
-                    last: next - 1,
-                    open,
-                })
-            }
-        },
-    }
+    let mark = enter(log, used, table)?;
+    let next = next_version(log, table, mark).ok_or(Refusal::BadStore)?;
+    let span = open_span(log, table, mark);
+    let open = rows_in(log, table, mark, span);
+    Ok(Versions {
+        last: next - 1,
+        open,
+    })
 }

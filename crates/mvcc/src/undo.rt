@@ -33,17 +33,10 @@ const USER_AT: usize = 1 + VERSION_BYTES;
 fn is_write(bytes: &[u8]) -> bool
     ensures { result ≡ is_user (user_in bytes.now) }
 {
-    match decode(bytes) {
-        Err(_) => false,
-        Ok(key) => match key {
-            Key::NextVersion => false,
-            Key::TxnActive(_) => false,
-            Key::TxnActiveSnapshot(_) => false,
-            Key::TxnWrite(_, _) => true,
-            Key::Version(_, _) => false,
-            Key::Unversioned(_) => false,
-        },
-    }
+    let Ok(key) = decode(bytes) else {
+        return false;
+    };
+    matches!(key, Key::TxnWrite(_, _))
 }
 
 // Whether every key of a span is one.
@@ -122,11 +115,9 @@ fn undo_many(
     ensures { store_of log.new table.new result
         ≡ undo_many n (store_of log.old table.old mark) (rank spot (rows log.old table.old mark)) version }
 {
-    let mut left = n;
     let mut last = mark;
-    while 0 < left {
+    for _ in 0..n {
         last = undo_row(log, table, last, spot, version);
-        left -= 1;
     }
     last
 }
@@ -150,14 +141,9 @@ pub(crate) fn undo(
     }
     let once = span_room(log, table, mark, Some(log.len() - mark.used.len), span);
     let twice = span_room(log, table, mark, once, span);
-    match room_after(twice, key.len(), 0) {
-        None => Err(Refusal::LogFull),
-        Some(_) => {
-            let n = rows_in(log, table, mark, span);
-            let mid = undo_many(log, table, mark, span.from, n, version);
-            let last = del_key(log, table, mid, key);
-            let used = last.used;
-            Ok(used)
-        }
-    }
+    room_after(twice, key.len(), 0).ok_or(Refusal::LogFull)?;
+    let n = rows_in(log, table, mark, span);
+    let mid = undo_many(log, table, mark, span.from, n, version);
+    let last = del_key(log, table, mid, key);
+    Ok(last.used)
 }

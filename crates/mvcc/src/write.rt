@@ -31,18 +31,12 @@ fn allowed(
 ) -> Result<Mark, Refusal>
     ensures { Allows log.now used table.now handle klen vlen result }
 {
-    match admit(log, used, table, handle) {
-        Err(r) => Err(r),
-        Ok(mark) => {
-            if handle.read_only {
-                return Err(Refusal::ReadOnly);
-            }
-            match sized(klen, vlen) {
-                Err(r) => Err(r),
-                Ok(()) => Ok(mark),
-            }
-        }
+    let mark = admit(log, used, table, handle)?;
+    if handle.read_only {
+        return Err(Refusal::ReadOnly);
     }
+    sized(klen, vlen)?;
+    Ok(mark)
 }
 
 // The two entries of a write.
@@ -90,13 +84,9 @@ fn write(
     ensures { Writes log.old used.len table.old handle key.now (head.now ++ body.now) (length body.now)
         result log.new table.new }
 {
-    match allowed(log, used, table, handle, key.len(), body.len()) {
-        Err(r) => Err(r),
-        Ok(mark) => match search(log, table, mark, handle, key) {
-            Err(r) => Err(r),
-            Ok(()) => laid(log, table, mark, handle.version, key, head, body),
-        },
-    }
+    let mark = allowed(log, used, table, handle, key.len(), body.len())?;
+    search(log, table, mark, handle, key)?;
+    laid(log, table, mark, handle.version, key, head, body)
 }
 
 pub fn set(

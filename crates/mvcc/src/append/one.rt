@@ -25,13 +25,8 @@ pub(crate) fn append_one(
     let found = find(log, table, mark, key);
     let room = room_in(log, table, mark);
     let left = room_after(room, key.len(), value.len());
-    match judge(log, table, mark, left, wants(found)) {
-        Err(r) => Err(r),
-        Ok(()) => {
-            let none = &value[..0];
-            let last = append_set(log, table, mark, found, key, value, none);
-            let used = last.used;
-            Ok(used)
-        }
-    }
+    judge(log, table, mark, left, wants(found))?;
+    let none = &value[..0];
+    let last = append_set(log, table, mark, found, key, value, none);
+    Ok(last.used)
 }

@@ -36,15 +36,10 @@ pub(crate) fn append_pair(
     let room = room_in(log, table, mark);
     let left = room_after(room, first.len(), value.len());
     let rest = room_after(left, second.len(), head.len() + body.len());
-    match judge(log, table, mark, rest, wants(a) + wants(b)) {
-        Err(r) => Err(r),
-        Ok(()) => {
-            let none = &value[..0];
-            let mid = append_set(log, table, mark, a, first, value, none);
-            let place = behind(mark, mid, b);
-            let last = append_set(log, table, mid, place, second, head, body);
-            let used = last.used;
-            Ok(used)
-        }
-    }
+    judge(log, table, mark, rest, wants(a) + wants(b))?;
+    let none = &value[..0];
+    let mid = append_set(log, table, mark, a, first, value, none);
+    let place = behind(mark, mid, b);
+    let last = append_set(log, table, mid, place, second, head, body);
+    Ok(last.used)
 }

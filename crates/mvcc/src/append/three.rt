@@ -36,17 +36,12 @@ pub(crate) fn append_three(
     let left = room_after(room, first.len(), value.len());
     let rest = room_after(left, second.len(), payload.len());
     let end = room_after(rest, third.len(), 0);
-    match judge(log, table, mark, end, wants(a) + wants(b) + wants(d)) {
-        Err(r) => Err(r),
-        Ok(()) => {
-            let none = &value[..0];
-            let one = append_set(log, table, mark, a, first, value, none);
-            let place = behind(mark, one, b);
-            let between = behind(mark, one, d);
-            let two = append_set(log, table, one, place, second, payload, none);
-            let last = append_set(log, table, two, between, third, none, none);
-            let used = last.used;
-            Ok(used)
-        }
-    }
+    judge(log, table, mark, end, wants(a) + wants(b) + wants(d))?;
+    let none = &value[..0];
+    let one = append_set(log, table, mark, a, first, value, none);
+    let place = behind(mark, one, b);
+    let between = behind(mark, one, d);
+    let two = append_set(log, table, one, place, second, payload, none);
+    let last = append_set(log, table, two, between, third, none, none);
+    Ok(last.used)
 }

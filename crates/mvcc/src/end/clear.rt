@@ -55,13 +55,8 @@ pub(crate) fn clear(
         key.now result log.new table.new }
 {
     let room = span_room(log, table, mark, Some(log.len() - mark.used.len), span);
-    match room_after(room, key.len(), 0) {
-        None => Err(Refusal::LogFull),
-        Some(_) => {
-            let mid = end_span(log, table, mark, span);
-            let last = del_key(log, table, mid, key);
-            let used = last.used;
-            Ok(used)
-        }
-    }
+    room_after(room, key.len(), 0).ok_or(Refusal::LogFull)?;
+    let mid = end_span(log, table, mark, span);
+    let last = del_key(log, table, mid, key);
+    Ok(last.used)
 }

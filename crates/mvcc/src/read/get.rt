@@ -36,8 +36,7 @@ fn located(seen: Seen) -> Result<Part, Refusal>
     ensures { result ≡ located_seen seen }
 {
     match seen {
-        Seen::Hidden => Err(Refusal::Absent),
-        Seen::Gone => Err(Refusal::Absent),
+        Seen::Hidden | Seen::Gone => Err(Refusal::Absent),
         Seen::Bad => Err(Refusal::BadStore),
         Seen::Value(p) => Ok(p),
     }
@@ -52,13 +51,9 @@ pub fn get(
 ) -> Result<Part, Refusal>
     ensures { Gets log.now used.len table.now handle key.now result }
 {
-    match admit(log, used, table, handle) {
-        Err(r) => Err(r),
-        Ok(mark) => {
-            if MAX_KEY < key.len() {
-                return Err(Refusal::KeyTooLong);
-            }
-            located(highest(log, table, mark, handle, key))
-        }
+    let mark = admit(log, used, table, handle)?;
+    if MAX_KEY < key.len() {
+        return Err(Refusal::KeyTooLong);
     }
+    located(highest(log, table, mark, handle, key))
 }

@@ -12,19 +12,15 @@ use keycode::{Part, Refusal};
 pub fn get_unversioned(log: &[u8], used: Used, table: &[u32], key: &[u8]) -> Result<Part, Refusal>
     ensures { GetsUnversioned log.now used.len table.now key.now result }
 {
-    match enter(log, used, table) {
-        Err(r) => Err(r),
-        Ok(mark) => {
-            if MAX_KEY < key.len() {
-                return Err(Refusal::KeyTooLong);
-            }
-            let code = unversioned_code(key);
-            let bytes = code.bytes;
-            let len = code.len;
-            match find(log, table, mark, &bytes[..len]) {
-                Ok(p) => Ok(value_place(log, table, mark, p)),
-                Err(_) => Err(Refusal::Absent),
-            }
-        }
+    let mark = enter(log, used, table)?;
+    if MAX_KEY < key.len() {
+        return Err(Refusal::KeyTooLong);
     }
+    let code = unversioned_code(key);
+    let bytes = code.bytes;
+    let len = code.len;
+    let Ok(p) = find(log, table, mark, &bytes[..len]) else {
+        return Err(Refusal::Absent);
+    };
+    Ok(value_place(log, table, mark, p))
 }

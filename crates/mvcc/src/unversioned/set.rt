@@ -17,16 +17,10 @@ pub fn set_unversioned(
 ) -> Result<Used, Refusal>
     ensures { SetsPlain log.old used.len table.old key.now value.now result log.new table.new }
 {
-    match enter(log, used, table) {
-        Err(r) => Err(r),
-        Ok(mark) => match sized(key.len(), value.len()) {
-            Err(r) => Err(r),
-            Ok(()) => {
-                let code = unversioned_code(key);
-                let bytes = code.bytes;
-                let len = code.len;
-                append_one(log, table, mark, &bytes[..len], value)
-            }
-        },
-    }
+    let mark = enter(log, used, table)?;
+    sized(key.len(), value.len())?;
+    let code = unversioned_code(key);
+    let bytes = code.bytes;
+    let len = code.len;
+    append_one(log, table, mark, &bytes[..len], value)
 }

@@ -1,5 +1,7 @@
 -- `scan_step_lem`: the checks, and then the walk.
-use mathlib.Core.Path.{sym, ◌∙◌}
+use borrow.Author.Rules.{rules}
+use Rattle.std.specs.Prelude.{Err}
+use mathlib.Core.Path.{sym, ◌∙◌, ◌≡◌}
 use Rattle.bitcask.specs.declared.engine.mark.Mark.{Mark}
 use Rattle.bitcask.specs.engine.Rows.{rows}
 use Rattle.mvcc.specs.scan.Bounds.{scan_rows}
@@ -9,13 +11,13 @@ use Rattle.mvcc.proofs.scan.StepLaws.{scan_refused, scan_long, scan_done}
 use Rattle.mvcc.proofs.scan.scan_step.Goals as goal
 
 pub step_between-requires : goal.step_between-requires
-step_between-requires c = let a = c.args in (fine_held a.log.now a.used a.table.now a.handle c.admit.ensures _ c.in-Ok.is, sym c.keys_fit.ensures ∙ c.if-keys_fit.true)
+step_between-requires c = let a = c.args in (fine_held a.log.now a.used a.table.now a.handle c.admit.ensures _ c.in_ok-mark.was, sym c.keys_fit.ensures ∙ c.if-keys_fit.true)
 
-pub returns-in-Err : goal.returns-in-Err
-returns-in-Err c = let a = c.args in scan_refused a.log.now a.used a.table.now a.handle _ _ (λ (m : Mark). scan_rows a.lower a.low.now a.upper a.high.now a.given a.last.now (rows a.log.now a.table.now m)) (scan_agrees a.lower a.low.now a.upper a.high.now a.given a.last.now a.log.now a.table.now) c.admit.ensures _ c.in-Err.is
+pub returns-in_err-mark : goal.returns-in_err-mark
+returns-in_err-mark c = let a = c.args in let e : c.from_residual.result ≡ Err c.in_err-mark.field-0.0 = search rules in rw e (scan_refused a.log.now a.used a.table.now a.handle _ _ (λ (m : Mark). scan_rows a.lower a.low.now a.upper a.high.now a.given a.last.now (rows a.log.now a.table.now m)) (scan_agrees a.lower a.low.now a.upper a.high.now a.given a.last.now a.log.now a.table.now) c.admit.ensures _ c.in_err-mark.was)
 
 pub returns-then-keys_fit : goal.returns-then-keys_fit
-returns-then-keys_fit c = let a = c.args in scan_done a.log.now a.used a.table.now a.handle _ _ (λ (m : Mark). scan_rows a.lower a.low.now a.upper a.high.now a.given a.last.now (rows a.log.now a.table.now m)) (scan_agrees a.lower a.low.now a.upper a.high.now a.given a.last.now a.log.now a.table.now) c.admit.ensures _ c.in-Ok.is c.keys_fit.ensures c.if-keys_fit.true c.step_between.ensures
+returns-then-keys_fit c = let a = c.args in scan_done a.log.now a.used a.table.now a.handle _ _ (λ (m : Mark). scan_rows a.lower a.low.now a.upper a.high.now a.given a.last.now (rows a.log.now a.table.now m)) (scan_agrees a.lower a.low.now a.upper a.high.now a.given a.last.now a.log.now a.table.now) c.admit.ensures _ c.in_ok-mark.was c.keys_fit.ensures c.if-keys_fit.true c.step_between.ensures
 
 pub returns-else-keys_fit : goal.returns-else-keys_fit
-returns-else-keys_fit c = let a = c.args in scan_long a.log.now a.used a.table.now a.handle _ _ (λ (m : Mark). scan_rows a.lower a.low.now a.upper a.high.now a.given a.last.now (rows a.log.now a.table.now m)) (scan_agrees a.lower a.low.now a.upper a.high.now a.given a.last.now a.log.now a.table.now) c.admit.ensures _ c.in-Ok.is c.keys_fit.ensures c.if-keys_fit.false
+returns-else-keys_fit c = let a = c.args in scan_long a.log.now a.used a.table.now a.handle _ _ (λ (m : Mark). scan_rows a.lower a.low.now a.upper a.high.now a.given a.last.now (rows a.log.now a.table.now m)) (scan_agrees a.lower a.low.now a.upper a.high.now a.given a.last.now a.log.now a.table.now) c.admit.ensures _ c.in_ok-mark.was c.keys_fit.ensures c.if-keys_fit.false

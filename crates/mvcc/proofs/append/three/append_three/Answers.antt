@@ -1,4 +1,7 @@
 -- `append_three`: one search for each, the judgement, and all three laid.
+use borrow.Author.Rules.{rules}
+use Rattle.std.specs.Prelude.{Err}
+use mathlib.Core.Path.{◌≡◌}
 use Rattle.bitcask.specs.engine.Sets.{spot_place}
 use Rattle.bitcask.proofs.engine.SetLaws.{found_among}
 use Rattle.mvcc.proofs.append.AllLaws.{wants-few, all_refused}
@@ -16,22 +19,22 @@ pub judge-requires : goal.judge-requires
 judge-requires c = c.requires.0
 
 pub append_set-one-requires : goal.append_set-one-requires
-append_set-one-requires c = let a = c.args in let p = c.requires in (p.0, three_first (three_tried a.log.now a.table.now a.mark a.first.now a.value.now a.second.now a.payload.now a.third.now p.0 p.1 p.2 p.3 _ _ _ c.find-a.ensures c.find-b.ensures c.find-d.ensures c.room_in-room.ensures c.room_after-left.ensures c.room_after-rest.ensures c.room_after-end.ensures c.wants.ensures c.wants-2.ensures c.wants-3.ensures c.judge.ensures) c.in-Ok.is, found_among a.log.now a.table.now a.first.now a.mark _ c.find-a.ensures)
+append_set-one-requires c = let a = c.args in let p = c.requires in (p.0, three_first (three_tried a.log.now a.table.now a.mark a.first.now a.value.now a.second.now a.payload.now a.third.now p.0 p.1 p.2 p.3 _ _ _ c.find-a.ensures c.find-b.ensures c.find-d.ensures c.room_in-room.ensures c.room_after-left.ensures c.room_after-rest.ensures c.room_after-end.ensures c.wants.ensures c.wants-2.ensures c.wants-3.ensures c.judge.ensures) c.in_ok-judge.was, found_among a.log.now a.table.now a.first.now a.mark _ c.find-a.ensures)
 
 pub behind-place-requires : goal.behind-place-requires
-behind-place-requires c = let a = c.args in let p = c.requires in three_behind (three_tried a.log.now a.table.now a.mark a.first.now a.value.now a.second.now a.payload.now a.third.now p.0 p.1 p.2 p.3 _ _ _ c.find-a.ensures c.find-b.ensures c.find-d.ensures c.room_in-room.ensures c.room_after-left.ensures c.room_after-rest.ensures c.room_after-end.ensures c.wants.ensures c.wants-2.ensures c.wants-3.ensures c.judge.ensures) c.in-Ok.is _ c.find-a.ensures _ _ c.append_set-one.result c.append_set-one.ensures a.second.now _ c.find-b.ensures
+behind-place-requires c = let a = c.args in let p = c.requires in three_behind (three_tried a.log.now a.table.now a.mark a.first.now a.value.now a.second.now a.payload.now a.third.now p.0 p.1 p.2 p.3 _ _ _ c.find-a.ensures c.find-b.ensures c.find-d.ensures c.room_in-room.ensures c.room_after-left.ensures c.room_after-rest.ensures c.room_after-end.ensures c.wants.ensures c.wants-2.ensures c.wants-3.ensures c.judge.ensures) c.in_ok-judge.was _ c.find-a.ensures _ _ c.append_set-one.result c.append_set-one.ensures a.second.now _ c.find-b.ensures
 
 pub behind-between-requires : goal.behind-between-requires
-behind-between-requires c = let a = c.args in let p = c.requires in three_behind (three_tried a.log.now a.table.now a.mark a.first.now a.value.now a.second.now a.payload.now a.third.now p.0 p.1 p.2 p.3 _ _ _ c.find-a.ensures c.find-b.ensures c.find-d.ensures c.room_in-room.ensures c.room_after-left.ensures c.room_after-rest.ensures c.room_after-end.ensures c.wants.ensures c.wants-2.ensures c.wants-3.ensures c.judge.ensures) c.in-Ok.is _ c.find-a.ensures _ _ c.append_set-one.result c.append_set-one.ensures a.third.now _ c.find-d.ensures
+behind-between-requires c = let a = c.args in let p = c.requires in three_behind (three_tried a.log.now a.table.now a.mark a.first.now a.value.now a.second.now a.payload.now a.third.now p.0 p.1 p.2 p.3 _ _ _ c.find-a.ensures c.find-b.ensures c.find-d.ensures c.room_in-room.ensures c.room_after-left.ensures c.room_after-rest.ensures c.room_after-end.ensures c.wants.ensures c.wants-2.ensures c.wants-3.ensures c.judge.ensures) c.in_ok-judge.was _ c.find-a.ensures _ _ c.append_set-one.result c.append_set-one.ensures a.third.now _ c.find-d.ensures
 
 pub append_set-two-requires : goal.append_set-two-requires
-append_set-two-requires c = let a = c.args in let p = c.requires in three_second (three_tried a.log.now a.table.now a.mark a.first.now a.value.now a.second.now a.payload.now a.third.now p.0 p.1 p.2 p.3 _ _ _ c.find-a.ensures c.find-b.ensures c.find-d.ensures c.room_in-room.ensures c.room_after-left.ensures c.room_after-rest.ensures c.room_after-end.ensures c.wants.ensures c.wants-2.ensures c.wants-3.ensures c.judge.ensures) c.in-Ok.is _ c.find-a.ensures _ _ c.append_set-one.result c.append_set-one.ensures _ _ c.find-b.ensures c.behind-place.ensures
+append_set-two-requires c = let a = c.args in let p = c.requires in three_second (three_tried a.log.now a.table.now a.mark a.first.now a.value.now a.second.now a.payload.now a.third.now p.0 p.1 p.2 p.3 _ _ _ c.find-a.ensures c.find-b.ensures c.find-d.ensures c.room_in-room.ensures c.room_after-left.ensures c.room_after-rest.ensures c.room_after-end.ensures c.wants.ensures c.wants-2.ensures c.wants-3.ensures c.judge.ensures) c.in_ok-judge.was _ c.find-a.ensures _ _ c.append_set-one.result c.append_set-one.ensures _ _ c.find-b.ensures c.behind-place.ensures
 
 pub append_set-last-requires : goal.append_set-last-requires
-append_set-last-requires c = let a = c.args in let p = c.requires in three_third (three_tried a.log.now a.table.now a.mark a.first.now a.value.now a.second.now a.payload.now a.third.now p.0 p.1 p.2 p.3 _ _ _ c.find-a.ensures c.find-b.ensures c.find-d.ensures c.room_in-room.ensures c.room_after-left.ensures c.room_after-rest.ensures c.room_after-end.ensures c.wants.ensures c.wants-2.ensures c.wants-3.ensures c.judge.ensures) c.in-Ok.is _ c.find-a.ensures _ _ c.append_set-one.result c.append_set-one.ensures _ _ c.find-b.ensures c.behind-place.ensures _ _ c.append_set-two.result c.append_set-two.ensures _ _ c.find-d.ensures c.behind-between.ensures
+append_set-last-requires c = let a = c.args in let p = c.requires in three_third (three_tried a.log.now a.table.now a.mark a.first.now a.value.now a.second.now a.payload.now a.third.now p.0 p.1 p.2 p.3 _ _ _ c.find-a.ensures c.find-b.ensures c.find-d.ensures c.room_in-room.ensures c.room_after-left.ensures c.room_after-rest.ensures c.room_after-end.ensures c.wants.ensures c.wants-2.ensures c.wants-3.ensures c.judge.ensures) c.in_ok-judge.was _ c.find-a.ensures _ _ c.append_set-one.result c.append_set-one.ensures _ _ c.find-b.ensures c.behind-place.ensures _ _ c.append_set-two.result c.append_set-two.ensures _ _ c.find-d.ensures c.behind-between.ensures
 
-pub returns-in-Err : goal.returns-in-Err
-returns-in-Err c = let a = c.args in let p = c.requires in all_refused (three_tried a.log.now a.table.now a.mark a.first.now a.value.now a.second.now a.payload.now a.third.now p.0 p.1 p.2 p.3 _ _ _ c.find-a.ensures c.find-b.ensures c.find-d.ensures c.room_in-room.ensures c.room_after-left.ensures c.room_after-rest.ensures c.room_after-end.ensures c.wants.ensures c.wants-2.ensures c.wants-3.ensures c.judge.ensures) _ c.in-Err.is
+pub returns-in_err-judge : goal.returns-in_err-judge
+returns-in_err-judge c = let a = c.args in let p = c.requires in let e : c.from_residual.result ≡ Err c.in_err-judge.field-0.0 = search rules in rw e (all_refused (three_tried a.log.now a.table.now a.mark a.first.now a.value.now a.second.now a.payload.now a.third.now p.0 p.1 p.2 p.3 _ _ _ c.find-a.ensures c.find-b.ensures c.find-d.ensures c.room_in-room.ensures c.room_after-left.ensures c.room_after-rest.ensures c.room_after-end.ensures c.wants.ensures c.wants-2.ensures c.wants-3.ensures c.judge.ensures) _ c.in_err-judge.was)
 
-pub returns-in-Ok : goal.returns-in-Ok
-returns-in-Ok c = let a = c.args in let p = c.requires in three_done (three_tried a.log.now a.table.now a.mark a.first.now a.value.now a.second.now a.payload.now a.third.now p.0 p.1 p.2 p.3 _ _ _ c.find-a.ensures c.find-b.ensures c.find-d.ensures c.room_in-room.ensures c.room_after-left.ensures c.room_after-rest.ensures c.room_after-end.ensures c.wants.ensures c.wants-2.ensures c.wants-3.ensures c.judge.ensures) c.in-Ok.is _ c.find-a.ensures _ _ c.append_set-one.result c.append_set-one.ensures _ _ c.find-b.ensures c.behind-place.ensures _ _ c.append_set-two.result c.append_set-two.ensures _ _ c.find-d.ensures c.behind-between.ensures p.2 p.3 _ _ c.append_set-last.result c.append_set-last.ensures
+pub returns : goal.returns
+returns c = let a = c.args in let p = c.requires in three_done (three_tried a.log.now a.table.now a.mark a.first.now a.value.now a.second.now a.payload.now a.third.now p.0 p.1 p.2 p.3 _ _ _ c.find-a.ensures c.find-b.ensures c.find-d.ensures c.room_in-room.ensures c.room_after-left.ensures c.room_after-rest.ensures c.room_after-end.ensures c.wants.ensures c.wants-2.ensures c.wants-3.ensures c.judge.ensures) c.in_ok-judge.was _ c.find-a.ensures _ _ c.append_set-one.result c.append_set-one.ensures _ _ c.find-b.ensures c.behind-place.ensures _ _ c.append_set-two.result c.append_set-two.ensures _ _ c.find-d.ensures c.behind-between.ensures p.2 p.3 _ _ c.append_set-last.result c.append_set-last.ensures

@@ -1,16 +1,19 @@
 -- `get`: the checks, the key's length, and then the walk.
+use borrow.Author.Rules.{rules}
+use Rattle.std.specs.Prelude.{Err}
+use mathlib.Core.Path.{◌≡◌}
 use Rattle.mvcc.proofs.admission.AdmitLaws.{fine_held}
 use Rattle.mvcc.proofs.read.GetLaws.{get_refused, get_long, get_seen}
 use Rattle.mvcc.proofs.read.get.get.Goals as goal
 
 pub returns-then-key-gt-MAX_KEY : goal.returns-then-key-gt-MAX_KEY
-returns-then-key-gt-MAX_KEY c = let a = c.args in get_long a.log.now a.used a.table.now a.handle a.key.now c.admit.ensures _ c.in-Ok.is c.if-key-gt-MAX_KEY.true
+returns-then-key-gt-MAX_KEY c = let a = c.args in get_long a.log.now a.used a.table.now a.handle a.key.now c.admit.ensures _ c.in_ok-mark.was c.if-key-gt-MAX_KEY.true
 
 pub highest-requires : goal.highest-requires
-highest-requires c = let a = c.args in (fine_held a.log.now a.used a.table.now a.handle c.admit.ensures _ c.in-Ok.is, c.if-key-gt-MAX_KEY.false)
+highest-requires c = let a = c.args in (fine_held a.log.now a.used a.table.now a.handle c.admit.ensures _ c.in_ok-mark.was, c.if-key-gt-MAX_KEY.false)
 
-pub returns-in-Err : goal.returns-in-Err
-returns-in-Err c = let a = c.args in get_refused a.log.now a.used a.table.now a.handle a.key.now c.admit.ensures _ c.in-Err.is
+pub returns-in_err-mark : goal.returns-in_err-mark
+returns-in_err-mark c = let a = c.args in let e : c.from_residual.result ≡ Err c.in_err-mark.field-0.0 = search rules in rw e (get_refused a.log.now a.used a.table.now a.handle a.key.now c.admit.ensures _ c.in_err-mark.was)
 
-pub returns-else-key-gt-MAX_KEY : goal.returns-else-key-gt-MAX_KEY
-returns-else-key-gt-MAX_KEY c = let a = c.args in get_seen a.log.now a.used a.table.now a.handle a.key.now c.admit.ensures _ c.in-Ok.is c.if-key-gt-MAX_KEY.false c.highest.ensures c.located.ensures
+pub returns : goal.returns
+returns c = let a = c.args in get_seen a.log.now a.used a.table.now a.handle a.key.now c.admit.ensures _ c.in_ok-mark.was c.if-key-gt-MAX_KEY.false c.highest.ensures c.located.ensures

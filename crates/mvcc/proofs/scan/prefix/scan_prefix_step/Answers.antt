@@ -1,5 +1,7 @@
 -- `scan_prefix_step`: the checks, and then the walk.
-use mathlib.Core.Path.{sym, ◌∙◌}
+use borrow.Author.Rules.{rules}
+use Rattle.std.specs.Prelude.{Err}
+use mathlib.Core.Path.{sym, ◌∙◌, ◌≡◌}
 use Rattle.bitcask.specs.declared.engine.mark.Mark.{Mark}
 use Rattle.bitcask.specs.engine.Rows.{rows}
 use Rattle.mvcc.specs.scan.Bounds.{prefix_rows}
@@ -9,13 +11,13 @@ use Rattle.mvcc.proofs.scan.StepLaws.{scan_refused, scan_long, scan_done}
 use Rattle.mvcc.proofs.scan.prefix.scan_prefix_step.Goals as goal
 
 pub step_begun-requires : goal.step_begun-requires
-step_begun-requires c = let a = c.args in (fine_held a.log.now a.used a.table.now a.handle c.admit.ensures _ c.in-Ok.is, sym c.prefix_fits.ensures ∙ c.if-prefix_fits.true)
+step_begun-requires c = let a = c.args in (fine_held a.log.now a.used a.table.now a.handle c.admit.ensures _ c.in_ok-mark.was, sym c.prefix_fits.ensures ∙ c.if-prefix_fits.true)
 
-pub returns-in-Err : goal.returns-in-Err
-returns-in-Err c = let a = c.args in scan_refused a.log.now a.used a.table.now a.handle _ _ (λ (m : Mark). prefix_rows a.prefix.now a.given a.last.now (rows a.log.now a.table.now m)) (prefix_agrees a.prefix.now a.given a.last.now a.log.now a.table.now (λ i. (c.type_inv.log i).fits)) c.admit.ensures _ c.in-Err.is
+pub returns-in_err-mark : goal.returns-in_err-mark
+returns-in_err-mark c = let a = c.args in let e : c.from_residual.result ≡ Err c.in_err-mark.field-0.0 = search rules in rw e (scan_refused a.log.now a.used a.table.now a.handle _ _ (λ (m : Mark). prefix_rows a.prefix.now a.given a.last.now (rows a.log.now a.table.now m)) (prefix_agrees a.prefix.now a.given a.last.now a.log.now a.table.now (λ i. (c.type_inv.log i).fits)) c.admit.ensures _ c.in_err-mark.was)
 
 pub returns-then-prefix_fits : goal.returns-then-prefix_fits
-returns-then-prefix_fits c = let a = c.args in scan_done a.log.now a.used a.table.now a.handle _ _ (λ (m : Mark). prefix_rows a.prefix.now a.given a.last.now (rows a.log.now a.table.now m)) (prefix_agrees a.prefix.now a.given a.last.now a.log.now a.table.now (λ i. (c.type_inv.log i).fits)) c.admit.ensures _ c.in-Ok.is c.prefix_fits.ensures c.if-prefix_fits.true c.step_begun.ensures
+returns-then-prefix_fits c = let a = c.args in scan_done a.log.now a.used a.table.now a.handle _ _ (λ (m : Mark). prefix_rows a.prefix.now a.given a.last.now (rows a.log.now a.table.now m)) (prefix_agrees a.prefix.now a.given a.last.now a.log.now a.table.now (λ i. (c.type_inv.log i).fits)) c.admit.ensures _ c.in_ok-mark.was c.prefix_fits.ensures c.if-prefix_fits.true c.step_begun.ensures
 
 pub returns-else-prefix_fits : goal.returns-else-prefix_fits
-returns-else-prefix_fits c = let a = c.args in scan_long a.log.now a.used a.table.now a.handle _ _ (λ (m : Mark). prefix_rows a.prefix.now a.given a.last.now (rows a.log.now a.table.now m)) (prefix_agrees a.prefix.now a.given a.last.now a.log.now a.table.now (λ i. (c.type_inv.log i).fits)) c.admit.ensures _ c.in-Ok.is c.prefix_fits.ensures c.if-prefix_fits.false
+returns-else-prefix_fits c = let a = c.args in scan_long a.log.now a.used a.table.now a.handle _ _ (λ (m : Mark). prefix_rows a.prefix.now a.given a.last.now (rows a.log.now a.table.now m)) (prefix_agrees a.prefix.now a.given a.last.now a.log.now a.table.now (λ i. (c.type_inv.log i).fits)) c.admit.ensures _ c.in_ok-mark.was c.prefix_fits.ensures c.if-prefix_fits.false

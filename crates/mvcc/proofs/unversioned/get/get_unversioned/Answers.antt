@@ -1,5 +1,7 @@
 -- `get_unversioned`: 13, the key's length, and then the look-up of its code.
-use mathlib.Core.Path.{sym}
+use borrow.Author.Rules.{rules}
+use Rattle.std.specs.Prelude.{Err}
+use mathlib.Core.Path.{sym, ◌≡◌}
 use lib.Seq.{length-take-le}
 use Rattle.bitcask.proofs.engine.SpotLaws.{in_held}
 use Rattle.bitcask.proofs.engine.LookLaws.{found_stands}
@@ -8,7 +10,7 @@ use native.Mathlib.Omega.{arith}
 use Rattle.mvcc.proofs.unversioned.get.get_unversioned.Goals as goal
 
 pub returns-then-key-gt-MAX_KEY : goal.returns-then-key-gt-MAX_KEY
-returns-then-key-gt-MAX_KEY c = let a = c.args in unversioned-long a.log.now a.used a.table.now a.key.now c.enter.ensures _ c.in-Ok.is c.if-key-gt-MAX_KEY.true
+returns-then-key-gt-MAX_KEY c = let a = c.args in unversioned-long a.log.now a.used a.table.now a.key.now c.enter.ensures _ c.in_ok-mark.was c.if-key-gt-MAX_KEY.true
 
 pub slice_bounds-bytes-end : goal.slice_bounds-bytes-end
 slice_bounds-bytes-end c = let w = c.unversioned_code-code.ensures in omega (arith, w.whole, w.within)
@@ -17,16 +19,16 @@ pub slice_bounds-find-end : goal.slice_bounds-find-end
 slice_bounds-find-end c = let w = c.unversioned_code-code.ensures in sym (length-take-le _ _ (omega (arith, w.whole, w.within)))
 
 pub find-requires : goal.find-requires
-find-requires c = let a = c.args in in_held a.log.now a.used a.table.now _ c.enter.ensures _ c.in-Ok.is
+find-requires c = let a = c.args in in_held a.log.now a.used a.table.now _ c.enter.ensures _ c.in_ok-mark.was
 
 pub value_place-requires : goal.value_place-requires
-value_place-requires c = let a = c.args in (in_held a.log.now a.used a.table.now _ c.enter.ensures _ c.in-Ok.is, found_stands _ _ c.find.ensures _ c.in-Ok-find.is)
+value_place-requires c = let a = c.args in (in_held a.log.now a.used a.table.now _ c.enter.ensures _ c.in_ok-mark.was, found_stands _ _ c.find.ensures _ c.in-Ok.is)
 
-pub returns-in-Err : goal.returns-in-Err
-returns-in-Err c = let a = c.args in unversioned-bad a.log.now a.used a.table.now a.key.now c.enter.ensures _ c.in-Err.is
+pub returns-in_err-mark : goal.returns-in_err-mark
+returns-in_err-mark c = let a = c.args in let e : c.from_residual.result ≡ Err c.in_err-mark.field-0.0 = search rules in rw e (unversioned-bad a.log.now a.used a.table.now a.key.now c.enter.ensures _ c.in_err-mark.was)
 
-pub returns-in-Ok-find : goal.returns-in-Ok-find
-returns-in-Ok-find c = let a = c.args in unversioned-at a.log.now a.used a.table.now a.key.now c.enter.ensures _ c.in-Ok.is c.if-key-gt-MAX_KEY.false c.unversioned_code-code.ensures _ c.find.ensures _ c.in-Ok-find.is c.value_place.ensures.0
+pub returns : goal.returns
+returns c = let a = c.args in unversioned-at a.log.now a.used a.table.now a.key.now c.enter.ensures _ c.in_ok-mark.was c.if-key-gt-MAX_KEY.false c.unversioned_code-code.ensures _ c.find.ensures _ c.in-Ok.is c.value_place.ensures.0
 
-pub returns-in-Err-find : goal.returns-in-Err-find
-returns-in-Err-find c = let a = c.args in unversioned_absent a.log.now a.used a.table.now a.key.now c.enter.ensures _ c.in-Ok.is c.if-key-gt-MAX_KEY.false c.unversioned_code-code.ensures _ c.find.ensures _ c.in-Err-find.is
+pub returns-in_default : goal.returns-in_default
+returns-in_default c = let a = c.args in unversioned_absent a.log.now a.used a.table.now a.key.now c.enter.ensures _ c.in_ok-mark.was c.if-key-gt-MAX_KEY.false c.unversioned_code-code.ensures _ c.find.ensures _ c.in_default.is
