@@ -7,7 +7,7 @@ ghost use Rattle.keycode.specs.Buffer.{put};
 ghost use Rattle.mvcc.specs.handle.Handles.{set_of, handle_of, with_all};
 ghost use Rattle.mvcc.specs.payload.Payloads.{version_bytes, version_in, set_bytes, versions_of, set_in, value_in, set_for, refused_set};
 
-use crate::handle::{Handle, at_most};
+use crate::handle::Handle;
 use keycode::Refusal;
 use keycode::limits::MAX_OPEN;
 use keycode::number::{get_number, put_number};
@@ -154,7 +154,5 @@ pub(crate) fn put_set(handle: Handle, out: &mut [u8]) -> usize
     requires { 8 * max_open ≤ length out.old }
     ensures { (result ≡ length (set_bytes (set_of handle))) × (out.new ≡ put out.old 0 (set_bytes (set_of handle))) }
 {
-    let n = at_most(handle.count, MAX_OPEN);
-    let set = handle.set;
-    put_versions(&set[..n], out)
+    put_versions(handle.open(), out)
 }

@@ -185,10 +185,6 @@ module _ (s : List ℕ) (i : ℕ) {d out : List ℕ} {o : ℕ} (w : Laying d 0 (
   unfolding set_bytes
   set-laid h = let q = lay_end w (ap set_bytes (drop_of_length-le s h)) in (omega (arith, q.0), q.1)
 
-pub set-few : (h : Handle) (n : ℕ) → n ≡ min h.count max_open → {m : ℕ} → 8 * max_open ≤ m → 8 * length (take n h.set) ≤ m
-set-few h n e k = simp length-take (omega arith)
-
--- the part of a handle's array that its count allows, written
-pub set-written : (h : Handle) → length h.set ≡ max_open → (n : ℕ) → n ≡ min h.count max_open → (d : List ℕ) {r : ℕ} {out : List ℕ}
-    → (r ≡ length (set_bytes (take n h.set))) × (out ≡ put d 0 (set_bytes (take n h.set))) → (r ≡ length (set_bytes (set_of h))) × (out ≡ put d 0 (set_bytes (set_of h)))
-set-written h given n e d w = rw (set_part h given n e) at w
+pub set-few : (h : Handle) → length h.set ≡ max_open → {s : List ℕ} → s ≡ set_of h → {m : ℕ} → 8 * max_open ≤ m → 8 * length s ≤ m
+unfolding set_of
+set-few h f e k = rw e (simp length-take (omega (arith, f)))
