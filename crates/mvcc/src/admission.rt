@@ -6,7 +6,7 @@ ghost use Rattle.bitcask.specs.engine.Rows.{rows};
 ghost use Rattle.mvcc.specs.request.Checks.{active_key, open_by};
 ghost use Rattle.mvcc.specs.admission.Admits.{Admits};
 
-use crate::handle::Handle;
+use crate::handle::{Handle, LAST_VERSION};
 use bitcask::Used;
 use bitcask::engine::spot::find;
 use bitcask::engine::{Mark, enter};
@@ -30,10 +30,7 @@ pub(crate) fn open(log: &[u8], table: &[u32], mark: Mark, handle: Handle) -> boo
         return true;
     }
     let version = handle.version;
-    if version == 0 {
-        return false;
-    }
-    if version == 0xffff_ffff_ffff_ffff {
+    if version == 0 || version == LAST_VERSION {
         return false;
     }
     let code = active_code(version);

@@ -7,7 +7,7 @@ ghost use Rattle.bitcask.specs.engine.Rows.{rows, pairs};
 ghost use Rattle.mvcc.specs.conflict.Conflicts.{seen_bytes, search_by};
 ghost use Rattle.mvcc.specs.conflict.Conflicts.{unseen_rows};
 
-use crate::handle::Handle;
+use crate::handle::{Handle, LAST_VERSION};
 use crate::version::version_of;
 use bitcask::Bound;
 use bitcask::engine::Mark;
@@ -40,7 +40,7 @@ pub(crate) fn search(
     requires { (Held log.now table.now mark) × (length key.now ≤ max_key) }
     ensures { result ≡ search_by handle (pairs (unseen_rows handle key.now (rows log.now table.now mark))) }
 {
-    let high = version_code(key, 0xffff_ffff_ffff_ffff);
+    let high = version_code(key, LAST_VERSION);
     let high_bytes = high.bytes;
     let high_len = high.len;
     let end = past(log, table, mark, Bound::Included, &high_bytes[..high_len]);

@@ -5,6 +5,9 @@ ghost use Rattle.mvcc.specs.handle.Handles.{rising, set_of, sees, lowest_of, sou
 
 use keycode::limits::MAX_OPEN;
 
+// The last of all numbers, the highest version that a key can have. No read-write handle has it.
+pub(crate) const LAST_VERSION: u64 = u64::MAX;
+
 // The versions open at its begin are the first `count` of `set`, rising. An array with a count: a handle crosses the C interface by value,
 // and the store has no heap; `open` is the slice of it that is in use.
 #[derive(Clone, Copy, Debug, PartialEq, Eq)]

@@ -6,7 +6,7 @@ ghost use Rattle.bitcask.specs.engine.Spots.{rank};
 ghost use Rattle.bitcask.specs.engine.Ranges.{between};
 ghost use Rattle.bitcask.specs.engine.Prefixes.{Prefixes};
 ghost use Rattle.mvcc.specs.request.Ranges.{active_prefix};
-ghost use Rattle.mvcc.specs.snapshot.Active.{next_by, next_in, active_in, keys_in, versions_in, active_rows, bad_seen, seen_from, seen_by};
+ghost use Rattle.mvcc.specs.snapshot.Active.{next_by, next_in, active_in, keys_in, versions_in, active_rows, seen_from, seen_by};
 
 use crate::handle::Handle;
 use crate::payload::{VERSION_BYTES, read_version};
@@ -21,10 +21,10 @@ use keycode::parts::clip;
 // The first byte of every TxnActive key.
 const ACTIVE_TAG: u8 = 1;
 
-// Beside the count the handle with the versions, as many as it has room for; a blank one where the store is bad.
-#[derive(Clone, Copy)]
+// How many versions are open, and a handle with them, as many as it has room for.
+#[derive(Clone, Copy, Debug, PartialEq, Eq)]
 pub struct Seen {
-    pub tally: Option<usize>,
+    pub tally: usize,
     pub handle: Handle,
 }
 
@@ -32,18 +32,10 @@ pub struct Seen {
 fn positive(read: Option<u64>) -> Option<u64>
     ensures { result ≡ next_by read }
 {
-    match read {
-        None => None,
-        Some(v) => {
-            if v == 0 {
-                return None;
-            }
-            Some(v)
-        }
-    }
+    read.filter(|&version| version != 0)
 }
 
-// The next version; a missing record means 1.
+// The next version; a missing record means 1, and a payload that is no version None.
 pub(crate) fn next_version(log: &[u8], table: &[u32], mark: Mark) -> Option<u64>
     requires { Held log.now table.now mark }
     ensures { result ≡ next_in (rows log.now table.now mark) }
@@ -51,13 +43,13 @@ pub(crate) fn next_version(log: &[u8], table: &[u32], mark: Mark) -> Option<u64>
     let code = next_version_code();
     let bytes = code.bytes;
     let n = code.len;
-    match find(log, table, mark, &bytes[..n]) {
-        Err(_) => Some(1),
-        Ok(p) => positive(read_version(value_at(log, table, mark, p))),
-    }
+    let Ok(p) = find(log, table, mark, &bytes[..n]) else {
+        return Some(1);
+    };
+    positive(read_version(value_at(log, table, mark, p)))
 }
 
-// The version of a TxnActive key.
+// The version of a TxnActive key; None of other bytes.
 fn version_in(key: &[u8]) -> Option<u64>
     ensures { result ≡ active_in key.now }
 {
@@ -67,56 +59,33 @@ fn version_in(key: &[u8]) -> Option<u64>
     Some(get_number(clip(key, 1, VERSION_BYTES)))
 }
 
-fn bad_seen() -> Seen
-    ensures { result ≡ bad_seen }
-{
-    let handle = Handle::blank();
-    Seen {
-        tally: None,
-        handle,
-    }
-}
-
 // The rows of the open versions.
 pub(crate) fn open_span(log: &[u8], table: &[u32], mark: Mark) -> Span
     requires { Held log.now table.now mark }
     ensures { Prefixes (rows log.now table.now mark) active_prefix result }
 {
-    let tag = [ACTIVE_TAG; 1];
-    prefix_span(log, table, mark, &tag)
+    prefix_span(log, table, mark, &[ACTIVE_TAG])
 }
 
-// The versions of a span's rows into a handle. All are looked at, however many it has room for.
-fn gather(log: &[u8], table: &[u32], mark: Mark, span: Span, start: Handle) -> Seen
+// The versions of a span's rows into a handle; None where one is no TxnActive key. All are looked at, however many it has room for.
+fn gather(log: &[u8], table: &[u32], mark: Mark, span: Span, start: Handle) -> Option<Seen>
     requires { (Held log.now table.now mark) × (rank span.to (rows log.now table.now mark) ≤ length (rows log.now table.now mark)) }
     ensures { result ≡ seen_from 0 start (versions_in (keys_in (between span.from span.to (rows log.now table.now mark)))) }
 {
-    let to = span.to;
     let mut at = span.from;
     let mut handle = start;
-    let mut n = 0;
-    loop {
-        if meet(log, table, mark, at, to) {
-            return Seen {
-                tally: Some(n),
-                handle,
-            };
-        }
-        match version_in(key_at(log, table, mark, at)) {
-            None => {
-                return bad_seen();
-            }
-            Some(v) => {
-                handle = handle.with(v);
-            }
-        }
-        n += 1;
+    let mut tally = 0;
+    while !meet(log, table, mark, at, span.to) {
+        let version = version_in(key_at(log, table, mark, at))?;
+        handle = handle.with(version);
+        tally += 1;
         at = next(log, table, mark, at);
     }
+    Some(Seen { tally, handle })
 }
 
 // The open versions into a handle.
-fn actives(log: &[u8], table: &[u32], mark: Mark, start: Handle) -> Seen
+fn actives(log: &[u8], table: &[u32], mark: Mark, start: Handle) -> Option<Seen>
     requires { Held log.now table.now mark }
     ensures { result ≡ seen_from 0 start (versions_in (keys_in (active_rows (rows log.now table.now mark)))) }
 {
@@ -124,14 +93,12 @@ fn actives(log: &[u8], table: &[u32], mark: Mark, start: Handle) -> Seen
     gather(log, table, mark, span, start)
 }
 
-// The handle of NextVersion with the versions open.
-pub(crate) fn look_round(log: &[u8], table: &[u32], mark: Mark, read_only: bool) -> Seen
+// The handle of NextVersion with the versions open; None where one of them is bad.
+pub(crate) fn look_round(log: &[u8], table: &[u32], mark: Mark, read_only: bool) -> Option<Seen>
     requires { Held log.now table.now mark }
     ensures { result ≡ seen_by read_only (next_in (rows log.now table.now mark))
         (versions_in (keys_in (active_rows (rows log.now table.now mark)))) }
 {
-    match next_version(log, table, mark) {
-        None => bad_seen(),
-        Some(v) => actives(log, table, mark, Handle::fresh(v, read_only)),
-    }
+    let version = next_version(log, table, mark)?;
+    actives(log, table, mark, Handle::fresh(version, read_only))
 }

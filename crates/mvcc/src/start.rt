@@ -6,13 +6,13 @@ ghost use Rattle.mvcc.specs.append.Appends.{Appends};
 ghost use Rattle.mvcc.specs.handle.Handles.{set_of};
 ghost use Rattle.mvcc.specs.payload.Payloads.{set_bytes};
 ghost use Rattle.mvcc.specs.start.Plan.{plan_by};
-ghost use Rattle.mvcc.specs.start.Begins.{begun_by};
+ghost use Rattle.mvcc.specs.request.Given.{begun_of};
 ghost use Rattle.mvcc.specs.start.Promises.{Begins};
 
 use crate::append::pair::append_pair;
 use crate::append::three::append_three;
-use crate::begun::{Begun, given, refused};
-use crate::handle::Handle;
+use crate::begun::Begun;
+use crate::handle::{Handle, LAST_VERSION};
 use crate::payload::{SET_BYTES, VERSION_BYTES, put_set, put_version};
 use crate::snapshot::look_round;
 use bitcask::Used;
@@ -20,9 +20,6 @@ use bitcask::engine::{Mark, enter};
 use keycode::Refusal;
 use keycode::code::{active_code, next_version_code, snapshot_code};
 use keycode::limits::MAX_OPEN;
-
-// A read-write handle never has the last of all numbers.
-const LAST_VERSION: u64 = 0xffff_ffff_ffff_ffff;
 
 // NextVersion, the snapshot where others are open, and the version's own record. A snapshot's payload is handed in, and how many are open.
 fn laid(
@@ -73,41 +70,40 @@ fn laid(
 }
 
 // 7 and 8, then the entries of a handle with so many versions open.
-fn start(log: &mut [u8], table: &mut [u32], mark: Mark, handle: Handle, open: usize) -> Begun
+fn start(
+    log: &mut [u8],
+    table: &mut [u32],
+    mark: Mark,
+    handle: Handle,
+    open: usize,
+) -> Result<Used, Refusal>
     requires { (Held log.old table.old mark) × (mark ≡ mark_of mark.used table.old) × (handle.version < 2 ^ 64 - 1) × (length (set_bytes (set_of handle)) ≤ 8 * max_open) }
-    ensures { (result ≡ begun_by result.answer handle)
-        × Appends log.old table.old mark (plan_by «open» handle.version (set_bytes (set_of handle))) result.answer log.new table.new }
+    ensures { Appends log.old table.old mark (plan_by «open» handle.version (set_bytes (set_of handle))) result log.new table.new }
 {
     let mut bytes = [0u8; SET_BYTES];
     let n = put_set(handle, &mut bytes);
-    match laid(log, table, mark, open, handle.version, &bytes[..n]) {
-        Err(r) => refused(r),
-        Ok(used) => given(used, handle),
-    }
+    laid(log, table, mark, open, handle.version, &bytes[..n])
 }
 
 // 13, then 12, 11, 9, 7, 8.
+fn opened(log: &mut [u8], used: Used, table: &mut [u32]) -> Result<(Used, Handle), Refusal>
+    ensures { Begins log.old used.len table.old (begun_of result) log.new table.new }
+{
+    let mark = enter(log, used, table)?;
+    let seen = look_round(log, table, mark, false).ok_or(Refusal::BadStore)?;
+    let handle = seen.handle;
+    if handle.version == LAST_VERSION {
+        return Err(Refusal::VersionsSpent);
+    }
+    if MAX_OPEN <= seen.tally {
+        return Err(Refusal::TooManyOpen);
+    }
+    let after = start(log, table, mark, handle, seen.tally)?;
+    Ok((after, handle))
+}
+
 pub fn begin(log: &mut [u8], used: Used, table: &mut [u32]) -> Begun
     ensures { Begins log.old used.len table.old result log.new table.new }
 {
-    match enter(log, used, table) {
-        Err(r) => refused(r),
-        Ok(mark) => {
-            let seen = look_round(log, table, mark, false);
-            let tally = seen.tally;
-            let handle = seen.handle;
-            match tally {
-                None => refused(Refusal::BadStore),
-                Some(k) => {
-                    if handle.version == LAST_VERSION {
-                        return refused(Refusal::VersionsSpent);
-                    }
-                    if MAX_OPEN <= k {
-                        return refused(Refusal::TooManyOpen);
-                    }
-                    start(log, table, mark, handle, k)
-                }
-            }
-        }
-    }
+    Begun::from(opened(log, used, table))
 }

@@ -10,7 +10,7 @@ ghost use Rattle.bitcask.specs.engine.Walks.{down_from};
 ghost use Rattle.mvcc.specs.version.Seen.{label_by, version_of, behind_part, string_part, row_says, seen_as, seen_row, record_row, last_rows};
 
 use crate::handle::Handle;
-use crate::payload::{ValueRead, read_value};
+use crate::payload::{Stored, read_value};
 use bitcask::Bound;
 use bitcask::engine::row::{key_at, key_place, value_at, value_place};
 use bitcask::engine::walk::row_before;
@@ -91,9 +91,11 @@ fn value_says(log: &[u8], table: &[u32], mark: Mark, spot: Spot) -> Seen
     ensures { result ≡ row_says (row_at spot (rows log.now table.now mark)) }
 {
     match read_value(value_at(log, table, mark, spot)) {
-        ValueRead::Value { skip } => Seen::Value(behind(value_place(log, table, mark, spot), skip)),
-        ValueRead::Gone => Seen::Gone,
-        ValueRead::Bad => Seen::Bad,
+        Some(Stored::Value { skip }) => {
+            Seen::Value(behind(value_place(log, table, mark, spot), skip))
+        }
+        Some(Stored::Gone) => Seen::Gone,
+        None => Seen::Bad,
     }
 }
 

@@ -18,8 +18,8 @@ use Rattle.keycode.specs.declared.key.Key.TheVariants.{NextVersion, TxnActive, T
 use Rattle.keycode.proofs.StringLaws.{escape-length}
 use Rattle.bitcask.specs.engine.Rows.{Row, key_place, value_place, Stands}
 use Rattle.mvcc.specs.declared.handle.Handle.{Handle}
-use Rattle.mvcc.specs.declared.payload.ValueRead.{ValueRead}
-use Rattle.mvcc.specs.declared.payload.ValueRead.TheVariants as Payload
+use Rattle.mvcc.specs.declared.payload.Stored.{Stored}
+use Rattle.mvcc.specs.declared.payload.Stored.TheVariants as Payload
 use Rattle.mvcc.specs.handle.Handles.{sees}
 use Rattle.mvcc.specs.payload.Payloads.{value_in, value_at}
 use Rattle.mvcc.proofs.request.LookLaws.{drop-take}
@@ -63,14 +63,14 @@ module _ (log : List ℕ) (r : Row) (w : Stands log r) where
       ∙ named_part n ∙ ap escape_body (sym (named-user n))
 
   module _ (k : Part) (z : Stamp) (e : part_of log k ≡ escape_body z.user) where
-    value-shown : (v : ValueRead) → shown log k (says_by (value_place r) v) ≡ escaped (sight_by z.user (value_at r.value v))
-    value-shown (Payload.Value skip) =
+    value-shown : (v : Option Stored) → shown log k (says_by (value_place r) v) ≡ escaped (sight_by z.user (value_at r.value v))
+    value-shown (Some (Payload.Value skip)) =
         let q : take (length r.value - skip) (drop (r.at + length r.key + skip) log) ≡ drop skip r.value =
         ap (take (length r.value - skip)) (sym (drop-drop skip (r.at + length r.key) log)) ∙ drop-take skip (length r.value) (drop (r.at + length r.key) log)
         ∙ ap (drop skip) w.value in
         λ j. shows (record { user = e j; value = q j })
-    value-shown Payload.Gone = refl
-    value-shown Payload.Bad = refl
+    value-shown (Some Payload.Gone) = refl
+    value-shown None = refl
 
     seen_shown : (h : Handle) → shown log k (seen_as h (row_says r) z.version) ≡ escaped (sight_of h z r.value)
     unfolding row_says sight_of

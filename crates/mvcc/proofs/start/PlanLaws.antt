@@ -68,23 +68,7 @@ module _ (log t : List ℕ) (m : Mark) (k v : ℕ) (p : List ℕ) (a b : Code) (
       go zero h = absurd (h refl)
       go (suc i) h = unfold plan_by snapshot_by in (rw (wa.says, wb.says, wc.says, ev) at w)
 
--- ---- the handle that comes with the answer
-
-module _ (log t : List ℕ) (m : Mark) (k : ℕ) (h : Handle) {p : List ℕ} (ep : p ≡ set_bytes (set_of h)) {c : Result Used Refusal} {log' t' : List ℕ}
-    (w : Appends log t m (plan_by k h.version p) c log' t') where
-  same_answer : (x : Result Used Refusal) → x ≡ c → Appends log t m (plan_by k h.version (set_bytes (set_of h))) x log' t'
-  same_answer x e =
-      subst (λ (y : Result Used Refusal). Appends log t m (plan_by k h.version (set_bytes (set_of h))) y log' t') (sym e)
-      (subst (λ (b : List ℕ). Appends log t m (plan_by k h.version b) c log' t') ep w)
-
-  pub start_refused : {r : Begun} (y : Refusal) → c ≡ Err y → r ≡ refused_by y
-      → (r ≡ begun_by r.answer h) × Appends log t m (plan_by k h.version (set_bytes (set_of h))) r.answer log' t'
-  start_refused {r} y e q =
-      let z : r.answer ≡ Err y = ap (λ (x : Begun). x.answer) q in
-      (q ∙ ap (λ (x : Result Used Refusal). begun_by x h) (sym z), same_answer r.answer (z ∙ sym e))
-
-  pub start_given : {r : Begun} (u : Used) → c ≡ Ok u → r ≡ begun_with u.len h
-      → (r ≡ begun_by r.answer h) × Appends log t m (plan_by k h.version (set_bytes (set_of h))) r.answer log' t'
-  start_given {r} u e q =
-      let z : r.answer ≡ Ok u = ap (λ (x : Begun). x.answer) q in
-      (q ∙ ap (λ (x : Result Used Refusal). begun_by x h) (sym z), same_answer r.answer (z ∙ sym e))
+-- the payload is the handle's set
+pub set_laid : (log t : List ℕ) (m : Mark) (k : ℕ) (h : Handle) {p : List ℕ} → p ≡ set_bytes (set_of h) → {c : Result Used Refusal} {log' t' : List ℕ}
+    → Appends log t m (plan_by k h.version p) c log' t' → Appends log t m (plan_by k h.version (set_bytes (set_of h))) c log' t'
+set_laid log t m k h ep {c} {log'} {t'} w = subst (λ (b : List ℕ). Appends log t m (plan_by k h.version b) c log' t') ep w

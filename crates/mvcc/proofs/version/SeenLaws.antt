@@ -12,8 +12,8 @@ use Rattle.keycode.specs.declared.refusal.Refusal.{Refusal}
 use Rattle.keycode.specs.key.Keys.{encode, version, decode_why, forget}
 use Rattle.keycode.specs.declared.key.Key.{Key}
 use Rattle.bitcask.specs.declared.answers.Bound.TheVariants.{Included}
-use Rattle.mvcc.specs.declared.payload.ValueRead.{ValueRead}
-use Rattle.mvcc.specs.declared.payload.ValueRead.TheVariants as Payload
+use Rattle.mvcc.specs.declared.payload.Stored.{Stored}
+use Rattle.mvcc.specs.declared.payload.Stored.TheVariants as Payload
 use Rattle.mvcc.specs.payload.Payloads.{value_in}
 use Rattle.mvcc.proofs.payload.PayloadLaws.{skip_within}
 use Rattle.mvcc.specs.declared.handle.Handle.{Handle}
@@ -49,23 +49,23 @@ version_by d p q = ap version_in (sym q ∙ p)
 
 -- ---- a payload
 
-module _ (x : Row) {b : List ℕ} {got : ValueRead} (eb : b ≡ x.value) (eg : got ≡ value_in b) where
+module _ (x : Row) {b : List ℕ} {got : Option Stored} (eb : b ≡ x.value) (eg : got ≡ value_in b) where
   says-got : row_says x ≡ says_by (value_place x) got
   unfolding row_says
   says-got = rw (← eb, eg)
 
-  pub says-room : (k : ℕ) (p : Part) → got ≡ Payload.Value k → (p ≡ value_place x) × (p.at + p.len < 2 ^ 63) → (k ≤ p.len) × (p.at + p.len < 2 ^ 63)
+  pub says-room : (k : ℕ) (p : Part) → got ≡ Some (Payload.Value k) → (p ≡ value_place x) × (p.at + p.len < 2 ^ 63) → (k ≤ p.len) × (p.at + p.len < 2 ^ 63)
   says-room k p e w =
       let l : k ≤ length b = skip_within b k (sym eg ∙ e) in
       (omega (arith, ap length eb, ap (λ (q : Part). q.len) w.0), w.1)
 
-  pub says-value : (k : ℕ) (p q : Part) → got ≡ Payload.Value k → p ≡ value_place x → q ≡ behind_part p k → Value q ≡ row_says x
+  pub says-value : (k : ℕ) (p q : Part) → got ≡ Some (Payload.Value k) → p ≡ value_place x → q ≡ behind_part p k → Value q ≡ row_says x
   says-value k p q e ep eq = sym (says-got ∙ rw (e, eq, ep))
 
-  pub says-gone : got ≡ Payload.Gone → Gone ≡ row_says x
+  pub says-gone : got ≡ Some Payload.Gone → Gone ≡ row_says x
   says-gone e = sym (says-got ∙ rw e)
 
-  pub says-bad : got ≡ Payload.Bad → Bad ≡ row_says x
+  pub says-bad : got ≡ None → Bad ≡ row_says x
   says-bad e = sym (says-got ∙ rw e)
 
 -- ---- a record

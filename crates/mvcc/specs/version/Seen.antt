@@ -16,8 +16,8 @@ use Rattle.bitcask.specs.engine.Spots.{upto_rank}
 use Rattle.bitcask.specs.engine.Ranges.{inside}
 use Rattle.bitcask.specs.engine.Walks.{down_from}
 use Rattle.mvcc.specs.declared.handle.Handle.{Handle}
-use Rattle.mvcc.specs.declared.payload.ValueRead.{ValueRead}
-use Rattle.mvcc.specs.declared.payload.ValueRead.TheVariants as Payload
+use Rattle.mvcc.specs.declared.payload.Stored.{Stored}
+use Rattle.mvcc.specs.declared.payload.Stored.TheVariants as Payload
 use Rattle.mvcc.specs.handle.Handles.{sees}
 use Rattle.mvcc.specs.payload.Payloads.{value_in, value_at}
 use Rattle.mvcc.specs.declared.version.Label.{Label}
@@ -57,10 +57,10 @@ behind_part p skip = record { at = p.at + skip; len = p.len - skip }
 abbrev pub string_part : Part → ℕ → Part
 string_part p n = record { at = p.at + 1; len = n }
 
-abbrev pub says_by : Part → ValueRead → Seen
-says_by p (Payload.Value skip) = Value (behind_part p skip)
-says_by p Payload.Gone = Gone
-says_by p Payload.Bad = Bad
+abbrev pub says_by : Part → Option Stored → Seen
+says_by p (Some (Payload.Value skip)) = Value (behind_part p skip)
+says_by p (Some Payload.Gone) = Gone
+says_by p None = Bad
 
 unfoldable pub row_says : Row → Seen
 row_says r = says_by (value_place r) (value_in r.value)

@@ -6,7 +6,7 @@ use Rattle.mvcc.proofs.snapshot.ActiveLaws.{Gathering}
 use Rattle.mvcc.proofs.snapshot.gather.Given as goal
 
 abbrev pub invariant-loop-mark : goal.invariant-loop-mark
-invariant-loop-mark l = Gathering (rows l.log l.table l.mark) l.initial.at l.to l.initial.handle l.handle l.n l.at
+invariant-loop-mark l = Gathering (rows l.log l.table l.mark) l.initial.at l.span.to l.initial.handle l.handle l.tally l.at
 
 abbrev pub decreases-loop-mark : goal.decreases-loop-mark
-decreases-loop-mark l = rank l.to (rows l.log l.table l.mark) - rank l.at (rows l.log l.table l.mark)
+decreases-loop-mark l = rank l.span.to (rows l.log l.table l.mark) - rank l.at (rows l.log l.table l.mark)
