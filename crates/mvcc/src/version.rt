@@ -17,7 +17,7 @@ use bitcask::engine::walk::row_before;
 use bitcask::engine::{Mark, Spot};
 use keycode::{Key, Part, decode};
 
-// Hidden goes on to the record below; the others decide.
+// What a record says. Hidden goes on to the record below; the others decide.
 #[derive(Clone, Copy)]
 pub enum Seen {
     Hidden,
@@ -26,44 +26,35 @@ pub enum Seen {
     Value(Part),
 }
 
-// A key that is no Version key, or where the escaped bytes of its user key stand in it, and its version.
+// What a Version key says: where the escaped bytes of its user key stand in it, and its version.
 #[derive(Clone, Copy)]
-pub enum Label {
-    None,
-    Of(Part, u64),
+pub struct Label {
+    pub string: Part,
+    pub version: u64,
 }
 
-// A row whose key is no Version key, or the place of its user key's escaped bytes and what it says.
+// A row of a Version key: the place of its user key's escaped bytes, and what it says.
 #[derive(Clone, Copy)]
-pub enum Record {
-    Junk,
-    Good(Part, Seen),
+pub struct Record {
+    pub key: Part,
+    pub seen: Seen,
 }
 
-fn label_of(key: &[u8]) -> Label
+// None of a key that is no Version key.
+fn label_of(key: &[u8]) -> Option<Label>
     ensures { result ≡ label_by (forget (decode_why max_key key.now)) }
 {
-    match decode(key) {
-        Ok(k) => match k {
-            Key::NextVersion => Label::None,
-            Key::TxnActive(_) => Label::None,
-            Key::TxnActiveSnapshot(_) => Label::None,
-            Key::TxnWrite(_, _) => Label::None,
-            Key::Version(p, v) => Label::Of(p, v),
-            Key::Unversioned(_) => Label::None,
-        },
-        Err(_) => Label::None,
-    }
+    let Key::Version(string, version) = decode(key).ok()? else {
+        return None;
+    };
+    Some(Label { string, version })
 }
 
-// The version of a Version key. Other keys do not lie among them.
+// The version of a Version key; None of other keys, which do not lie among them.
 pub(crate) fn version_of(key: &[u8]) -> Option<u64>
     ensures { result ≡ version_of (forget (decode_why max_key key.now)) }
 {
-    match label_of(key) {
-        Label::None => None,
-        Label::Of(_, v) => Some(v),
-    }
+    Some(label_of(key)?.version)
 }
 
 // A part without its first `skip` bytes.
@@ -122,19 +113,22 @@ fn seen_at(log: &[u8], table: &[u32], mark: Mark, spot: Spot, handle: Handle) ->
     }
 }
 
-// The same with the place of its user key.
-pub(crate) fn record_at(log: &[u8], table: &[u32], mark: Mark, spot: Spot, handle: Handle) -> Record
+// The same with the place of its user key; None of a row whose key is no Version key.
+pub(crate) fn record_at(
+    log: &[u8],
+    table: &[u32],
+    mark: Mark,
+    spot: Spot,
+    handle: Handle,
+) -> Option<Record>
     requires { (Held log.now table.now mark) × (rank spot (rows log.now table.now mark) < length (rows log.now table.now mark)) }
     ensures { result ≡ record_row handle (row_at spot (rows log.now table.now mark)) }
 {
-    match label_of(key_at(log, table, mark, spot)) {
-        Label::None => Record::Junk,
-        Label::Of(p, v) => {
-            let place = key_place(log, table, mark, spot);
-            let key = string_part(place, p.len);
-            Record::Good(key, seen_as(log, table, mark, spot, handle, v))
-        }
-    }
+    let label = label_of(key_at(log, table, mark, spot))?;
+    let place = key_place(log, table, mark, spot);
+    let key = string_part(place, label.string.len);
+    let seen = seen_as(log, table, mark, spot, handle, label.version);
+    Some(Record { key, seen })
 }
 
 // The rows before a place, downward to `low`: the first that decides.
@@ -150,27 +144,12 @@ pub(crate) fn seek(
     ensures { result ≡ last_rows handle (down_from Included low.now (rows log.now table.now mark) (rank end (rows log.now table.now mark))) }
 {
     let mut at = end;
-    loop {
-        match row_before(log, table, mark, at, Bound::Included, low) {
-            None => {
-                return Seen::Hidden;
-            }
-            Some(p) => {
-                let seen = seen_at(log, table, mark, p, handle);
-                match seen {
-                    Seen::Hidden => {}
-                    Seen::Gone => {
-                        return Seen::Gone;
-                    }
-                    Seen::Bad => {
-                        return Seen::Bad;
-                    }
-                    Seen::Value(v) => {
-                        return Seen::Value(v);
-                    }
-                }
-                at = p;
-            }
-        }
+    while let Some(p) = row_before(log, table, mark, at, Bound::Included, low) {
+        let seen = seen_at(log, table, mark, p, handle);
+        let Seen::Hidden = seen else {
+            return seen;
+        };
+        at = p;
     }
+    Seen::Hidden
 }

@@ -26,7 +26,6 @@ use Rattle.mvcc.proofs.request.LookLaws.{drop-take}
 use Rattle.mvcc.specs.declared.version.Seen.{Seen}
 use Rattle.mvcc.specs.declared.version.Seen.TheVariants.{Hidden, Gone, Bad, Value}
 use Rattle.mvcc.specs.declared.version.Record.{Record}
-use Rattle.mvcc.specs.declared.version.Record.TheVariants.{Junk, Good}
 use Rattle.mvcc.specs.version.Seen.{label_by, string_part, says_by, row_says, seen_as, record_by, record_row}
 use Rattle.mvcc.specs.walk.Walks.{part_of}
 use Rattle.mvcc.specs.scan.Steps.{Stamp, stamp_by, stamp_of, Given, Sight, hidden, gone, bad, shows, sight_by, sight_of}
@@ -81,9 +80,9 @@ module _ (log : List ℕ) (r : Row) (w : Stands log r) where
         go false = refl
 
 -- what a record is, of a row whose key has a stamp or none
-pub data Told (h : Handle) (log : List ℕ) (r : Row) (x : Record) (stamp : Option Stamp) : Type 0 where
-  junk : x ≡ Junk → stamp ≡ None → Told h log r x stamp
-  good : (k : Part) (i : Seen) (z : Stamp) → x ≡ Good k i → stamp ≡ Some z → part_of log k ≡ escape_body z.user → shown log k i ≡ escaped (sight_of h z r.value) → Told h log r x stamp
+pub data Told (h : Handle) (log : List ℕ) (r : Row) (x : Option Record) (stamp : Option Stamp) : Type 0 where
+  junk : x ≡ None → stamp ≡ None → Told h log r x stamp
+  good : (k : Part) (i : Seen) (z : Stamp) → x ≡ Some (record { key = k; seen = i }) → stamp ≡ Some z → part_of log k ≡ escape_body z.user → shown log k i ≡ escaped (sight_of h z r.value) → Told h log r x stamp
 
 pub told : (h : Handle) (log : List ℕ) (r : Row) → Stands log r → Told h log r (record_row h r) (stamp_of r.key)
 unfolding record_row stamp_of
