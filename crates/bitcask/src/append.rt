@@ -45,7 +45,7 @@ pub(crate) fn fresh(log: &[u8], table: &[u32], count: usize, key: &[u8]) -> usiz
 }
 
 // An entry whose value is head and then body.
-pub fn append_set(
+pub(crate) fn append_set(
     log: &mut [u8],
     table: &mut [u32],
     mark: Mark,
@@ -69,7 +69,7 @@ pub fn append_set(
 }
 
 // A tombstone.
-pub fn append_del(log: &mut [u8], table: &mut [u32], mark: Mark, key: &[u8]) -> Mark
+pub(crate) fn append_del(log: &mut [u8], table: &mut [u32], mark: Mark, key: &[u8]) -> Mark
     requires { (mark.used + 8 + length key.now ≤ length log.old) × (length log.old ≤ max_log) × (slot_words * mark.count ≤ length table.old) }
     ensures { record { log = log.new; used = result.used; table = table.new; count = result.count }
         ≡ appended (record { log = log.old; used = mark.used; table = table.old; count = mark.count }) (del_entry key.now) }

@@ -22,7 +22,6 @@ use Rattle.bitcask.specs.entry.Entry.{Entry}
 use Rattle.bitcask.specs.recovery.Recover.{map_of}
 use Rattle.bitcask.specs.recovery.Promises.{changed_number}
 use Rattle.bitcask.specs.change.Append.{size_all, after_all, append_answer}
-use Rattle.mvcc.specs.declared.payload.SetAnswer.TheVariants as SetAnswers
 use Rattle.mvcc.specs.declared.handle.Handle.{Handle}
 use Rattle.mvcc.specs.handle.Handles.{handle_of}
 use Rattle.mvcc.specs.declared.begun.Begun.{Begun}
@@ -85,8 +84,8 @@ reading_not used n vs = go (leb (length vs) max_open)
     go true e = omega arith
     go false e = omega arith
 
-early : (used : ℕ) (h : Handle) (late : Bool) {r : Begun} → r ≡ pick late (refused_by NoSuchVersion) (as_of_with used SetAnswers.Fine h) → late ≡ false → changed_number r.answer ≡ 0
-early used h late e p = ap (λ (x : Begun). changed_number x.answer) (e ∙ ap (λ (b : Bool). pick b (refused_by NoSuchVersion) (as_of_with used SetAnswers.Fine h)) p)
+early : (used : ℕ) (h : Handle) (late : Bool) {r : Begun} → r ≡ pick late (refused_by NoSuchVersion) (as_of_with used (Ok h)) → late ≡ false → changed_number r.answer ≡ 0
+early used h late e p = ap (λ (x : Begun). changed_number x.answer) (e ∙ ap (λ (b : Bool). pick b (refused_by NoSuchVersion) (as_of_with used (Ok h))) p)
 
 module _ {w : World} {T : Calls} {m : Map} (k : Kept w T m) (a : Ready w) where
   sorted : Sorted key_order m

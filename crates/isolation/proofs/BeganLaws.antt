@@ -22,11 +22,10 @@ use Rattle.bitcask.specs.recovery.Recover.{map_of}
 use Rattle.bitcask.specs.recovery.Agree.{Agrees}
 use Rattle.bitcask.specs.recovery.Promises.{changed_number}
 use Rattle.bitcask.specs.change.Append.{size_all, bytes_all, after_all}
-use Rattle.mvcc.specs.declared.payload.SetAnswer.TheVariants as SetAnswers
-use Rattle.mvcc.specs.declared.payload.SetRead.{SetRead}
 use Rattle.mvcc.specs.handle.Handles.{rising, handle_of}
 use Rattle.mvcc.specs.payload.Payloads.{Versions, set_bytes}
 use Rattle.mvcc.proofs.handle.HandleLaws.{made_set}
+use Rattle.mvcc.specs.declared.handle.Handle.{Handle}
 use Rattle.mvcc.specs.declared.begun.Begun.{Begun}
 use Rattle.mvcc.specs.start.Plan.{plan_by, begin_plan, plan_of}
 use Rattle.mvcc.specs.request.Given.{refused_by}
@@ -198,10 +197,10 @@ module _ {w : World} {T : Calls} {m : Map} (k : Kept w T m) (a : Ready w) where
   as_of_entry v r u e q l = rw e (ap (as_of_e v) (ap sight_of q ∙ sight_made v true (snap_of (look m (txn_active_snapshot v))) l))
 
   pub as_of_at : (v : ℕ) (r : Begun) → BeginsAsOf w.log w.used w.table v r
-      → r ≡ pick (leb (next_of (look m next_version)) v) (refused_by NoSuchVersion) (as_of_with w.used SetAnswers.Fine (handle_of v true (snap_of (look m (txn_active_snapshot v)))))
+      → r ≡ pick (leb (next_of (look m next_version)) v) (refused_by NoSuchVersion) (as_of_with w.used (Ok (handle_of v true (snap_of (look m (txn_active_snapshot v))))))
   as_of_at v r b =
       b.answer a ∙ rw (k.map, next-pairs sorted k.fine)
-      (ap (λ (x : SetRead). pick (leb (next_of (look m next_version)) v) (refused_by NoSuchVersion) (as_of_with w.used x.answer x.handle)) (snapshot_pairs sorted k.fine v))
+      (ap (λ (x : Result Handle Refusal). pick (leb (next_of (look m next_version)) v) (refused_by NoSuchVersion) (as_of_with w.used x)) (snapshot_pairs sorted k.fine v))
 
   pub made_as_of : (v : ℕ) (r : Begun) → BeginsAsOf w.log w.used w.table v r → Kept w (begins_as_of v r ∷ T) m
   unfolding trace_of
@@ -213,8 +212,7 @@ module _ {w : World} {T : Calls} {m : Map} (k : Kept w T m) (a : Ready w) where
       go (Ok u) e =
           let z : changed_number r.answer ≡ 0 = ap changed_number e in
           let S : List ℕ = snap_of (look m (txn_active_snapshot v)) in
-          let t : SetRead = record { answer = SetAnswers.Fine; handle = handle_of v true S } in
-          let s = as_of_says w.used v (next_of (look m next_version)) t r (as_of_at v r b) refl z in
+          let s = as_of_says w.used v (next_of (look m next_version)) (handle_of v true S) r (as_of_at v r b) z in
           let f = snap-fits k.fine v in
           let l : v < 2 ^ 64 = omega (arith, s.0, (next_fits k.fine).1) in
           let sound : Sound r.handle = subst Sound (sym s.1) (handle-sound v true S f.0 f.1 f.2 l (λ i. nope (cc))) in

@@ -15,11 +15,10 @@ use Rattle.keycode.specs.Limits.{max_open}
 use Rattle.keycode.specs.declared.refusal.Refusal.{Refusal}
 use Rattle.keycode.specs.declared.refusal.Refusal.TheVariants.{TooManyOpen, NoSuchVersion, VersionsSpent}
 use Rattle.bitcask.specs.recovery.Promises.{changed_number}
-use Rattle.mvcc.specs.declared.payload.SetAnswer.TheVariants as SetAnswers
-use Rattle.mvcc.specs.declared.payload.SetRead.{SetRead}
 use Rattle.mvcc.specs.handle.Handles.{rising, handle_of}
 use Rattle.mvcc.specs.payload.Payloads.{Versions}
 use Rattle.mvcc.proofs.handle.HandleLaws.{made_set, made_sound}
+use Rattle.mvcc.specs.declared.handle.Handle.{Handle}
 use Rattle.mvcc.specs.declared.begun.Begun.{Begun}
 use Rattle.mvcc.specs.request.Given.{refused_by, begun_with}
 use Rattle.mvcc.proofs.request.CheckLaws.{not_done}
@@ -59,13 +58,13 @@ reading_says used n vs r e z = go (leb (length vs) max_open) refl e
     go true p q = (omega (arith, leb-true (length vs) max_open p), ap (λ (y : Begun). y.handle) q)
     go false p q = refused_not TooManyOpen r q z
 
-pub as_of_says : (used v n : ℕ) (s : SetRead) (r : Begun) → r ≡ pick (leb n v) (refused_by NoSuchVersion) (as_of_with used s.answer s.handle) → s.answer ≡ SetAnswers.Fine
-    → changed_number r.answer ≡ 0 → (v < n) × (r.handle ≡ s.handle)
-as_of_says used v n s r e f z = go (leb n v) refl e
+pub as_of_says : (used v n : ℕ) (h : Handle) (r : Begun) → r ≡ pick (leb n v) (refused_by NoSuchVersion) (as_of_with used (Ok h))
+    → changed_number r.answer ≡ 0 → (v < n) × (r.handle ≡ h)
+as_of_says used v n h r e z = go (leb n v) refl e
   where
-    go : (b : Bool) → leb n v ≡ b → r ≡ pick b (refused_by NoSuchVersion) (as_of_with used s.answer s.handle) → (v < n) × (r.handle ≡ s.handle)
+    go : (b : Bool) → leb n v ≡ b → r ≡ pick b (refused_by NoSuchVersion) (as_of_with used (Ok h)) → (v < n) × (r.handle ≡ h)
     go true p q = refused_not NoSuchVersion r q z
-    go false p q = (leb-false n v p, ap (λ (y : Begun). y.handle) (q ∙ ap (λ (x : _). as_of_with used x s.handle) f))
+    go false p q = (leb-false n v p, ap (λ (y : Begun). y.handle) q)
 
 -- ---- the handles
 

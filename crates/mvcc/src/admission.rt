@@ -5,7 +5,7 @@ ghost use Rattle.bitcask.specs.engine.Spots.{has_row};
 ghost use Rattle.mvcc.specs.request.Checks.{active_key, open_by};
 ghost use Rattle.mvcc.specs.admission.Admits.{Admits};
 
-use crate::handle::Handle;
+use crate::handle::{Handle, LAST_VERSION};
 use bitcask::Used;
 use bitcask::engine::{View, enter};
 use keycode::Refusal;
@@ -15,10 +15,7 @@ use keycode::code::active_code;
 pub(crate) fn live(view: &View, key: &[u8]) -> bool
     ensures { result ≡ has_row key.now (shown view.now) }
 {
-    match view.find(key) {
-        Ok(_) => true,
-        Err(_) => false,
-    }
+    view.find(key).is_ok()
 }
 
 // Whether a handle's transaction is open.
@@ -29,10 +26,7 @@ pub(crate) fn open(view: &View, handle: Handle) -> bool
         return true;
     }
     let version = handle.version;
-    if version == 0 {
-        return false;
-    }
-    if version == 0xffff_ffff_ffff_ffff {
+    if version == 0 || version == LAST_VERSION {
         return false;
     }
     let code = active_code(version);
@@ -51,18 +45,13 @@ pub(crate) fn admit<'a>(
     ensures mark { Admits log.now used table.now handle (marked result) }
     ensures view { Viewed log.now table.now result }
 {
-    match enter(log, used, table) {
-        Err(r) => Err(r),
-        Ok(view) => {
-            let sound = handle.sound();
-            if !sound {
-                return Err(Refusal::BadRequest);
-            }
-            if open(&view, handle) {
-                Ok(view)
-            } else {
-                Err(Refusal::NotOpen)
-            }
-        }
+    let view = enter(log, used, table)?;
+    if !handle.sound() {
+        return Err(Refusal::BadRequest);
+    }
+    if open(&view, handle) {
+        Ok(view)
+    } else {
+        Err(Refusal::NotOpen)
     }
 }

@@ -7,7 +7,7 @@ ghost use Rattle.bitcask.specs.engine.Rows.{pairs};
 ghost use Rattle.mvcc.specs.conflict.Conflicts.{seen_bytes, search_by};
 ghost use Rattle.mvcc.specs.conflict.Conflicts.{unseen_rows};
 
-use crate::handle::Handle;
+use crate::handle::{Handle, LAST_VERSION};
 use crate::version::version_of;
 use bitcask::Bound;
 use bitcask::engine::View;
@@ -18,15 +18,11 @@ use keycode::code::version_code;
 fn met(handle: Handle, key: &[u8]) -> Result<(), Refusal>
     ensures { result ≡ seen_bytes handle key.now }
 {
-    match version_of(key) {
-        None => Err(Refusal::BadStore),
-        Some(v) => {
-            if handle.sees(v) {
-                Ok(())
-            } else {
-                Err(Refusal::Conflict)
-            }
-        }
+    let version = version_of(key).ok_or(Refusal::BadStore)?;
+    if handle.sees(version) {
+        Ok(())
+    } else {
+        Err(Refusal::Conflict)
     }
 }
 
@@ -35,7 +31,7 @@ pub(crate) fn search(view: &View, handle: Handle, key: &[u8]) -> Result<(), Refu
     requires { length key.now ≤ max_key }
     ensures { result ≡ search_by handle (pairs (unseen_rows handle key.now (shown view.now))) }
 {
-    let high = version_code(key, 0xffff_ffff_ffff_ffff);
+    let high = version_code(key, LAST_VERSION);
     let high_bytes = high.bytes;
     let high_len = high.len;
     let end = view.past(Bound::Included, &high_bytes[..high_len]);

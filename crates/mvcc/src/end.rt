@@ -10,6 +10,7 @@ use crate::end::clear::{clear, write_span};
 use crate::handle::Handle;
 use crate::undo::undo;
 use bitcask::Used;
+use bitcask::engine::Store;
 use keycode::Refusal;
 use keycode::code::active_code;
 
@@ -31,22 +32,18 @@ pub(crate) fn finish(
 ) -> Result<Used, Refusal>
     ensures { Ends way log.old used.len table.old handle result log.new table.new }
 {
-    match admit(log, used, table, handle) {
-        Err(r) => Err(r),
-        Ok(view) => {
-            if handle.read_only {
-                return Ok(used);
-            }
-            let version = handle.version;
-            let span = write_span(&view, version);
-            let mark = view.mark;
-            let code = active_code(version);
-            let bytes = code.bytes;
-            let n = code.len;
-            match way {
-                Way::Commit => clear(log, table, mark, span, &bytes[..n]),
-                Way::Rollback => undo(log, table, mark, span, version, &bytes[..n]),
-            }
-        }
+    let view = admit(log, used, table, handle)?;
+    if handle.read_only {
+        return Ok(used);
+    }
+    let version = handle.version;
+    let span = write_span(&view, version);
+    let code = active_code(version);
+    let bytes = code.bytes;
+    let n = code.len;
+    let mark = view.mark;
+    match way {
+        Way::Commit => clear(&mut Store { log, table, mark }, span, &bytes[..n]),
+        Way::Rollback => undo(log, table, mark, span, version, &bytes[..n]),
     }
 }

@@ -1,12 +1,16 @@
 // A transaction's handle by value: the version, and those that were open when it began. Callers may hand in any: no method trusts the
 // count, and none asks for a sound handle. Part of toydb's storage/mvcc.rs.
-ghost use Rattle.std.specs.Prelude.{◌≡◌, min, []};
-ghost use Rattle.mvcc.specs.handle.Handles.{memb, rising, sees, lowest_of, sound_handle, with_version, handle_of, blank_handle};
+ghost use Rattle.std.specs.Prelude.{◌≡◌, []};
+ghost use Rattle.mvcc.specs.handle.Handles.{rising, set_of, sees, lowest_of, sound_handle, with_version, handle_of, blank_handle};
 
 use keycode::limits::MAX_OPEN;
 
-// The versions open at its begin are the first `count` of `set`, rising.
-#[derive(Clone, Copy)]
+// The last of all numbers, the highest version that a key can have. No read-write handle has it.
+pub(crate) const LAST_VERSION: u64 = u64::MAX;
+
+// The versions open at its begin are the first `count` of `set`, rising. An array with a count: a handle crosses the C interface by value,
+// and the store has no heap; `open` is the slice of it that is in use.
+#[derive(Clone, Copy, Debug, PartialEq, Eq)]
 pub struct Handle {
     pub version: u64,
     pub read_only: bool,
@@ -14,41 +18,11 @@ pub struct Handle {
     pub set: [u64; MAX_OPEN],
 }
 
-// The count that can be relied on.
-pub(crate) fn at_most(n: usize, m: usize) -> usize
-    ensures { result ≡ min n m }
-{
-    if n < m { n } else { m }
-}
-
-// Whether a version is one of a set.
-fn among(set: &[u64], version: u64) -> bool
-    ensures { result ≡ memb version set.now }
-{
-    let mut i = 0;
-    while i < set.len() {
-        if set[i] == version {
-            return true;
-        }
-        i += 1;
-    }
-    false
-}
-
 // Whether each version is above the one before.
 fn rises(set: &[u64]) -> bool
     ensures { result ≡ rising set.now }
 {
-    let mut j = 0;
-    let mut i = 1;
-    while i < set.len() {
-        if set[i] <= set[j] {
-            return false;
-        }
-        j = i;
-        i += 1;
-    }
-    true
+    set.is_sorted_by(|a, b| a < b)
 }
 
 impl Handle {
@@ -73,30 +47,28 @@ impl Handle {
     }
 
     // One version more in the set; where there is no room, the handle as it was.
-    pub fn with(self, version: u64) -> Handle
+    pub fn with(mut self, version: u64) -> Handle
         ensures { result ≡ with_version self version }
     {
-        let n = self.count;
-        if n < MAX_OPEN {
-            let mut set = self.set;
-            set[n] = version;
-            return Handle {
-                version: self.version,
-                read_only: self.read_only,
-                count: n + 1,
-                set,
-            };
+        if self.count < MAX_OPEN {
+            self.set[self.count] = version;
+            self.count += 1;
         }
         self
+    }
+
+    // The versions open at its begin; of a count past the array, all of it.
+    pub(crate) fn open(&self) -> &[u64]
+        ensures { result.now ≡ set_of self.now }
+    {
+        &self.set[..self.count.min(MAX_OPEN)]
     }
 
     // Whether it sees what a version wrote.
     pub fn sees(self, version: u64) -> bool
         ensures { result ≡ sees self version }
     {
-        let n = at_most(self.count, MAX_OPEN);
-        let set = self.set;
-        if among(&set[..n], version) {
+        if self.open().contains(&version) {
             return false;
         }
         if self.read_only {
@@ -111,22 +83,15 @@ impl Handle {
         ensures { result ≡ lowest_of self }
     {
         if 0 < self.count {
-            let set = self.set;
-            return set[0];
+            return self.set[0];
         }
-        let v = self.version;
-        if v < 0xffff_ffff_ffff_ffff { v + 1 } else { v }
+        self.version.saturating_add(1)
     }
 
     // Whether it is a handle at all: 13 where not.
     pub fn sound(self) -> bool
         ensures { result ≡ sound_handle self }
     {
-        let n = self.count;
-        if MAX_OPEN < n {
-            return false;
-        }
-        let set = self.set;
-        rises(&set[..n])
+        self.count <= MAX_OPEN && rises(self.open())
     }
 }

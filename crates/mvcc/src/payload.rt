@@ -5,9 +5,9 @@ ghost use Rattle.keycode.specs.Limits.{max_open};
 ghost use Rattle.keycode.specs.Number.{num};
 ghost use Rattle.keycode.specs.Buffer.{put};
 ghost use Rattle.mvcc.specs.handle.Handles.{set_of, handle_of, with_all};
-ghost use Rattle.mvcc.specs.payload.Payloads.{version_bytes, version_in, set_bytes, versions_of, set_in, value_in, set_for, refused_set};
+ghost use Rattle.mvcc.specs.payload.Payloads.{version_bytes, version_in, set_bytes, versions_of, set_in, value_in, set_for};
 
-use crate::handle::{Handle, at_most};
+use crate::handle::Handle;
 use keycode::Refusal;
 use keycode::limits::MAX_OPEN;
 use keycode::number::{get_number, put_number};
@@ -23,27 +23,14 @@ pub(crate) const VALUE_TAG: u8 = 1;
 
 pub(crate) const GONE_TAG: u8 = 0;
 
-// A value's bytes start behind the first `skip` of its payload.
-#[derive(Clone, Copy)]
-pub enum ValueRead {
+// A stored value, whose bytes start behind the first `skip` of its payload, or a tombstone.
+#[derive(Clone, Copy, Debug, PartialEq, Eq)]
+pub enum Stored {
     Value { skip: usize },
     Gone,
-    Bad,
 }
 
-#[derive(Clone, Copy)]
-pub enum SetAnswer {
-    Fine,
-    Refused(Refusal),
-}
-
-// The handle with the set that was read; a blank one beside a refusal.
-#[derive(Clone, Copy)]
-pub struct SetRead {
-    pub answer: SetAnswer,
-    pub handle: Handle,
-}
-
+// None where the payload is no version.
 pub(crate) fn read_version(bytes: &[u8]) -> Option<u64>
     ensures { result ≡ version_in bytes.now }
 {
@@ -53,22 +40,14 @@ pub(crate) fn read_version(bytes: &[u8]) -> Option<u64>
     Some(get_number(bytes))
 }
 
-pub(crate) fn read_value(bytes: &[u8]) -> ValueRead
+// None where the payload is neither a value nor a tombstone.
+pub(crate) fn read_value(bytes: &[u8]) -> Option<Stored>
     ensures { result ≡ value_in bytes.now }
 {
-    if bytes.len() < 1 {
-        return ValueRead::Bad;
-    }
-    if bytes[0] == VALUE_TAG {
-        return ValueRead::Value { skip: 1 };
-    }
-    if bytes[0] != GONE_TAG {
-        return ValueRead::Bad;
-    }
-    if bytes.len() == 1 {
-        ValueRead::Gone
-    } else {
-        ValueRead::Bad
+    match bytes {
+        [VALUE_TAG, ..] => Some(Stored::Value { skip: 1 }),
+        [GONE_TAG] => Some(Stored::Gone),
+        _ => None,
     }
 }
 
@@ -84,46 +63,27 @@ fn gathered(bytes: &[u8], version: u64, read_only: bool) -> Handle
     ensures { result ≡ with_all (handle_of version read_only []) (versions_of (length bytes.now / 8) bytes.now) }
 {
     let mut handle = Handle::fresh(version, read_only);
-    let mut left = bytes.len() / VERSION_BYTES;
-    let mut at = 0;
-    while 0 < left {
-        let v = version_at(bytes, at);
-        handle = handle.with(v);
-        at += VERSION_BYTES;
-        left -= 1;
+    for i in 0..bytes.len() / VERSION_BYTES {
+        handle = handle.with(version_at(bytes, i * VERSION_BYTES));
     }
     handle
 }
 
-fn refused_set(r: Refusal) -> SetRead
-    ensures { result ≡ refused_set r }
-{
-    let handle = Handle::blank();
-    SetRead {
-        answer: SetAnswer::Refused(r),
-        handle,
-    }
-}
-
-// The handle with the set of a payload for its own.
-pub(crate) fn read_set(bytes: &[u8], handle: Handle) -> SetRead
+// The handle with the set of a payload for its own: 12 where there is a byte left over or the set does not rise, 9 where it is over the limit.
+pub(crate) fn read_set(bytes: &[u8], handle: Handle) -> Result<Handle, Refusal>
     ensures { result ≡ set_for handle (set_in bytes.now) }
 {
     if bytes.len() % VERSION_BYTES != 0 {
-        return refused_set(Refusal::BadStore);
+        return Err(Refusal::BadStore);
     }
     if MAX_OPEN < bytes.len() / VERSION_BYTES {
-        return refused_set(Refusal::TooManyOpen);
+        return Err(Refusal::TooManyOpen);
     }
     let read = gathered(bytes, handle.version, handle.read_only);
-    if read.sound() {
-        SetRead {
-            answer: SetAnswer::Fine,
-            handle: read,
-        }
-    } else {
-        refused_set(Refusal::BadStore)
+    if !read.sound() {
+        return Err(Refusal::BadStore);
     }
+    Ok(read)
 }
 
 // Lays a version at the front of a lent buffer.
@@ -140,11 +100,9 @@ fn put_versions(set: &[u64], out: &mut [u8]) -> usize
     ensures { (result ≡ length (set_bytes set.now)) × (out.new ≡ put out.old 0 (set_bytes set.now)) }
 {
     let mut o = 0;
-    let mut i = 0;
-    while i < set.len() {
-        put_number(set[i], VERSION_BYTES, out, o);
+    for &version in set {
+        put_number(version, VERSION_BYTES, out, o);
         o += VERSION_BYTES;
-        i += 1;
     }
     o
 }
@@ -154,7 +112,5 @@ pub(crate) fn put_set(handle: Handle, out: &mut [u8]) -> usize
     requires { 8 * max_open ≤ length out.old }
     ensures { (result ≡ length (set_bytes (set_of handle))) × (out.new ≡ put out.old 0 (set_bytes (set_of handle))) }
 {
-    let n = at_most(handle.count, MAX_OPEN);
-    let set = handle.set;
-    put_versions(&set[..n], out)
+    put_versions(handle.open(), out)
 }

@@ -17,18 +17,12 @@ pub struct Versions {
 pub fn status(log: &[u8], used: Used, table: &[u32]) -> Result<Versions, Refusal>
     ensures { States log.now used.len table.now result }
 {
-    match enter(log, used, table) {
-        Err(r) => Err(r),
-        Ok(view) => match next_version(&view) {
-            None => Err(Refusal::BadStore),
-            Some(next) => {
-                let span = open_span(&view);
-                let open = view.rows_in(span);
-                Ok(Versions {
-                    last: next - 1,
-                    open,
-                })
-            }
-        },
-    }
+    let view = enter(log, used, table)?;
+    let next = next_version(&view).ok_or(Refusal::BadStore)?;
+    let span = open_span(&view);
+    let open = view.rows_in(span);
+    Ok(Versions {
+        last: next - 1,
+        open,
+    })
 }

@@ -26,14 +26,10 @@ pub fn scan_step(
 ) -> Result<KeyValue, Refusal>
     ensures { Scans log.now used.len table.now handle lower low.now upper high.now given last.now result }
 {
-    match admit(log, used, table, handle) {
-        Err(r) => Err(r),
-        Ok(view) => {
-            if keys_fit(lower, low, upper, high, given, last) {
-                step_between(&view, handle, lower, low, upper, high, given, last)
-            } else {
-                Err(Refusal::KeyTooLong)
-            }
-        }
+    let view = admit(log, used, table, handle)?;
+    if keys_fit(lower, low, upper, high, given, last) {
+        step_between(&view, handle, lower, low, upper, high, given, last)
+    } else {
+        Err(Refusal::KeyTooLong)
     }
 }

@@ -5,7 +5,7 @@ ghost use Rattle.bitcask.specs.engine.Spots.{rank};
 ghost use Rattle.bitcask.specs.engine.Ranges.{between};
 ghost use Rattle.bitcask.specs.engine.Prefixes.{Prefixes};
 ghost use Rattle.mvcc.specs.request.Ranges.{active_prefix};
-ghost use Rattle.mvcc.specs.snapshot.Active.{next_by, next_in, active_in, keys_in, versions_in, active_rows, bad_seen, seen_from, seen_by};
+ghost use Rattle.mvcc.specs.snapshot.Active.{next_by, next_in, active_in, keys_in, versions_in, active_rows, seen_from, seen_by};
 
 use crate::handle::Handle;
 use crate::payload::{VERSION_BYTES, read_version};
@@ -17,10 +17,10 @@ use keycode::parts::clip;
 // The first byte of every TxnActive key.
 const ACTIVE_TAG: u8 = 1;
 
-// Beside the count the handle with the versions, as many as it has room for; a blank one where the store is bad.
-#[derive(Clone, Copy)]
+// How many versions are open, and a handle with them, as many as it has room for.
+#[derive(Clone, Copy, Debug, PartialEq, Eq)]
 pub struct Seen {
-    pub tally: Option<usize>,
+    pub tally: usize,
     pub handle: Handle,
 }
 
@@ -28,31 +28,23 @@ pub struct Seen {
 fn positive(read: Option<u64>) -> Option<u64>
     ensures { result ≡ next_by read }
 {
-    match read {
-        None => None,
-        Some(v) => {
-            if v == 0 {
-                return None;
-            }
-            Some(v)
-        }
-    }
+    read.filter(|&version| version != 0)
 }
 
-// The next version; a missing record means 1.
+// The next version; a missing record means 1, and a payload that is no version None.
 pub(crate) fn next_version(view: &View) -> Option<u64>
     ensures { result ≡ next_in (shown view.now) }
 {
     let code = next_version_code();
     let bytes = code.bytes;
     let n = code.len;
-    match view.find(&bytes[..n]) {
-        Err(_) => Some(1),
-        Ok(p) => positive(read_version(view.value_at(p))),
-    }
+    let Ok(p) = view.find(&bytes[..n]) else {
+        return Some(1);
+    };
+    positive(read_version(view.value_at(p)))
 }
 
-// The version of a TxnActive key.
+// The version of a TxnActive key; None of other bytes.
 fn version_in(key: &[u8]) -> Option<u64>
     ensures { result ≡ active_in key.now }
 {
@@ -62,68 +54,43 @@ fn version_in(key: &[u8]) -> Option<u64>
     Some(get_number(clip(key, 1, VERSION_BYTES)))
 }
 
-fn bad_seen() -> Seen
-    ensures { result ≡ bad_seen }
-{
-    let handle = Handle::blank();
-    Seen {
-        tally: None,
-        handle,
-    }
-}
-
 // The rows of the open versions.
 pub(crate) fn open_span(view: &View) -> Span
     ensures { Prefixes (shown view.now) active_prefix result }
 {
-    let tag = [ACTIVE_TAG; 1];
-    view.prefix_span(&tag)
+    view.prefix_span(&[ACTIVE_TAG])
 }
 
-// The versions of a span's rows into a handle. All are looked at, however many it has room for.
-fn gather(view: &View, span: Span, start: Handle) -> Seen
+// The versions of a span's rows into a handle; None where one is no TxnActive key. All are looked at, however many it has room for.
+fn gather(view: &View, span: Span, start: Handle) -> Option<Seen>
     requires { rank span.to (shown view.now) ≤ length (shown view.now) }
     ensures { result ≡ seen_from 0 start (versions_in (keys_in (between span.from span.to (shown view.now)))) }
 {
-    let to = span.to;
     let mut at = span.from;
     let mut handle = start;
-    let mut n = 0;
-    loop {
-        if view.meet(at, to) {
-            return Seen {
-                tally: Some(n),
-                handle,
-            };
-        }
-        match version_in(view.key_at(at)) {
-            None => {
-                return bad_seen();
-            }
-            Some(v) => {
-                handle = handle.with(v);
-            }
-        }
-        n += 1;
+    let mut tally = 0;
+    while !view.meet(at, span.to) {
+        let version = version_in(view.key_at(at))?;
+        handle = handle.with(version);
+        tally += 1;
         at = view.next(at);
     }
+    Some(Seen { tally, handle })
 }
 
 // The open versions into a handle.
-fn actives(view: &View, start: Handle) -> Seen
+fn actives(view: &View, start: Handle) -> Option<Seen>
     ensures { result ≡ seen_from 0 start (versions_in (keys_in (active_rows (shown view.now)))) }
 {
     let span = open_span(view);
     gather(view, span, start)
 }
 
-// The handle of NextVersion with the versions open.
-pub(crate) fn look_round(view: &View, read_only: bool) -> Seen
+// The handle of NextVersion with the versions open; None where one of them is bad.
+pub(crate) fn look_round(view: &View, read_only: bool) -> Option<Seen>
     ensures { result ≡ seen_by read_only (next_in (shown view.now))
         (versions_in (keys_in (active_rows (shown view.now)))) }
 {
-    match next_version(view) {
-        None => bad_seen(),
-        Some(v) => actives(view, Handle::fresh(v, read_only)),
-    }
+    let version = next_version(view)?;
+    actives(view, Handle::fresh(version, read_only))
 }

@@ -1,40 +1,31 @@
 // Begin: a transaction's handle, and the entries that say that it is open. Part of toydb's storage/mvcc.rs.
 ghost use Rattle.std.specs.Prelude.{◌≡◌, ◌*◌, ◌-◌, ◌^◌, ◌≤◌, ◌<◌, length};
 ghost use Rattle.keycode.specs.Limits.{max_open};
-ghost use Rattle.bitcask.specs.engine.Marks.{mark_of, Held};
-ghost use Rattle.mvcc.specs.append.Appends.{Appends};
+ghost use Rattle.bitcask.specs.engine.Stores.{SameLent, Counted};
+ghost use Rattle.mvcc.specs.append.Appends.{AppendsTo};
 ghost use Rattle.mvcc.specs.handle.Handles.{set_of};
 ghost use Rattle.mvcc.specs.payload.Payloads.{set_bytes};
 ghost use Rattle.mvcc.specs.start.Plan.{plan_by};
-ghost use Rattle.mvcc.specs.start.Begins.{begun_by};
+ghost use Rattle.mvcc.specs.request.Given.{begun_of};
 ghost use Rattle.mvcc.specs.start.Promises.{Begins};
 
 use crate::append::pair::append_pair;
 use crate::append::three::append_three;
-use crate::begun::{Begun, given, refused};
-use crate::handle::Handle;
+use crate::begun::Begun;
+use crate::handle::{Handle, LAST_VERSION};
 use crate::payload::{SET_BYTES, VERSION_BYTES, put_set, put_version};
 use crate::snapshot::look_round;
 use bitcask::Used;
-use bitcask::engine::{Mark, enter};
+use bitcask::engine::{Store, enter};
 use keycode::Refusal;
 use keycode::code::{active_code, next_version_code, snapshot_code};
 use keycode::limits::MAX_OPEN;
 
-// A read-write handle never has the last of all numbers.
-const LAST_VERSION: u64 = 0xffff_ffff_ffff_ffff;
-
 // NextVersion, the snapshot where others are open, and the version's own record. A snapshot's payload is handed in, and how many are open.
-fn laid(
-    log: &mut [u8],
-    table: &mut [u32],
-    mark: Mark,
-    open: usize,
-    version: u64,
-    set: &[u8],
-) -> Result<Used, Refusal>
-    requires { (Held log.old table.old mark) × (mark ≡ mark_of mark.used table.old) × (version < 2 ^ 64 - 1) }
-    ensures { Appends log.old table.old mark (plan_by «open» version set.now) result log.new table.new }
+fn laid(store: &mut Store, open: usize, version: u64, set: &[u8]) -> Result<Used, Refusal>
+    requires { (Counted store.old) × (version < 2 ^ 64 - 1) }
+    ensures lent { SameLent store.old store.new }
+    ensures appends { AppendsTo store.old (plan_by «open» version set.now) result store.new }
 {
     let next = next_version_code();
     let first = next.bytes;
@@ -47,9 +38,7 @@ fn laid(
     if open == 0 {
         let none = &set[..0];
         return append_pair(
-            log,
-            table,
-            mark,
+            store,
             &first[..n],
             &value[..VERSION_BYTES],
             &last[..m],
@@ -61,9 +50,7 @@ fn laid(
     let middle = snapshot.bytes;
     let k = snapshot.len;
     append_three(
-        log,
-        table,
-        mark,
+        store,
         &first[..n],
         &value[..VERSION_BYTES],
         &middle[..k],
@@ -73,42 +60,37 @@ fn laid(
 }
 
 // 7 and 8, then the entries of a handle with so many versions open.
-fn start(log: &mut [u8], table: &mut [u32], mark: Mark, handle: Handle, open: usize) -> Begun
-    requires { (Held log.old table.old mark) × (mark ≡ mark_of mark.used table.old) × (handle.version < 2 ^ 64 - 1) × (length (set_bytes (set_of handle)) ≤ 8 * max_open) }
-    ensures { (result ≡ begun_by result.answer handle)
-        × Appends log.old table.old mark (plan_by «open» handle.version (set_bytes (set_of handle))) result.answer log.new table.new }
+fn start(store: &mut Store, handle: Handle, open: usize) -> Result<Used, Refusal>
+    requires { (Counted store.old) × (handle.version < 2 ^ 64 - 1) × (length (set_bytes (set_of handle)) ≤ 8 * max_open) }
+    ensures lent { SameLent store.old store.new }
+    ensures appends { AppendsTo store.old (plan_by «open» handle.version (set_bytes (set_of handle))) result store.new }
 {
     let mut bytes = [0u8; SET_BYTES];
     let n = put_set(handle, &mut bytes);
-    match laid(log, table, mark, open, handle.version, &bytes[..n]) {
-        Err(r) => refused(r),
-        Ok(used) => given(used, handle),
-    }
+    laid(store, open, handle.version, &bytes[..n])
 }
 
 // 13, then 12, 11, 9, 7, 8.
+fn opened(log: &mut [u8], used: Used, table: &mut [u32]) -> Result<(Used, Handle), Refusal>
+    ensures { Begins log.old used.len table.old (begun_of result) log.new table.new }
+{
+    let view = enter(log, used, table)?;
+    let seen = look_round(&view, false).ok_or(Refusal::BadStore)?;
+    let handle = seen.handle;
+    if handle.version == LAST_VERSION {
+        return Err(Refusal::VersionsSpent);
+    }
+    if MAX_OPEN <= seen.tally {
+        return Err(Refusal::TooManyOpen);
+    }
+    let mark = view.mark;
+    let mut store = Store { log, table, mark };
+    let after = start(&mut store, handle, seen.tally)?;
+    Ok((after, handle))
+}
+
 pub fn begin(log: &mut [u8], used: Used, table: &mut [u32]) -> Begun
     ensures { Begins log.old used.len table.old result log.new table.new }
 {
-    match enter(log, used, table) {
-        Err(r) => refused(r),
-        Ok(view) => {
-            let seen = look_round(&view, false);
-            let mark = view.mark;
-            let tally = seen.tally;
-            let handle = seen.handle;
-            match tally {
-                None => refused(Refusal::BadStore),
-                Some(k) => {
-                    if handle.version == LAST_VERSION {
-                        return refused(Refusal::VersionsSpent);
-                    }
-                    if MAX_OPEN <= k {
-                        return refused(Refusal::TooManyOpen);
-                    }
-                    start(log, table, mark, handle, k)
-                }
-            }
-        }
-    }
+    Begun::from(opened(log, used, table))
 }

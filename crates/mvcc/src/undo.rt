@@ -1,20 +1,19 @@
 // The writes of a transaction undone: for each record of a write, the version that it names and the record itself are deleted.
 ghost use Rattle.std.specs.Prelude.{◌≡◌, true, ◌≤◌, length};
-ghost use Rattle.bitcask.specs.engine.Marks.{Held, mark_of};
 ghost use Rattle.bitcask.specs.engine.Views.{shown};
+ghost use Rattle.bitcask.specs.engine.Marks.{Held, mark_of};
+ghost use Rattle.bitcask.specs.engine.Stores.{state_of, kept, SameLent};
 ghost use Rattle.bitcask.specs.engine.Rows.{rows, pairs};
 ghost use Rattle.bitcask.specs.engine.Spots.{rank};
 ghost use Rattle.bitcask.specs.engine.Ranges.{between};
 ghost use Rattle.mvcc.specs.undo.Plans.{user_in, is_user, all_users};
 ghost use Rattle.mvcc.specs.undo.Undo.{Names, end_where, undo_row, undo_many, Undoes};
-ghost use Rattle.mvcc.specs.end.Ways.{store_of};
 
 use crate::end::clear::del_key;
 use crate::payload::VERSION_BYTES;
 use bitcask::Used;
 use bitcask::append::room_after;
-use bitcask::engine::ending::end_at;
-use bitcask::engine::{Mark, Span, Spot, View};
+use bitcask::engine::{Mark, Span, Spot, Store, View};
 use bitcask::entry::write::copy_into;
 use keycode::code::Code;
 use keycode::limits::KEY_BYTES;
@@ -31,17 +30,10 @@ const USER_AT: usize = 1 + VERSION_BYTES;
 fn is_write(bytes: &[u8]) -> bool
     ensures { result ≡ is_user (user_in bytes.now) }
 {
-    match decode(bytes) {
-        Err(_) => false,
-        Ok(key) => match key {
-            Key::NextVersion => false,
-            Key::TxnActive(_) => false,
-            Key::TxnActiveSnapshot(_) => false,
-            Key::TxnWrite(_, _) => true,
-            Key::Version(_, _) => false,
-            Key::Unversioned(_) => false,
-        },
-    }
+    let Ok(key) = decode(bytes) else {
+        return false;
+    };
+    matches!(key, Key::TxnWrite(_, _))
 }
 
 // Whether every key of a span is one.
@@ -75,64 +67,49 @@ fn named_code(write: &[u8], version: u64) -> Code
 }
 
 // The row at a place ended, where there is one.
-fn end_row(log: &mut [u8], table: &mut [u32], mark: Mark, spot: Spot) -> Mark
-    requires { Held log.old table.old mark }
-    ensures { store_of log.new table.new result
-        ≡ end_where (store_of log.old table.old mark) (rank spot (rows log.old table.old mark)) }
+fn end_row(store: &mut Store, spot: Spot)
+    ensures lent { SameLent store.old store.new }
+    ensures state { state_of store.new ≡ end_where (state_of store.old) (rank spot (kept store.old)) }
 {
-    let view = View { log, table, mark };
-    if !view.stands(spot) {
-        return mark;
+    if store.view().stands(spot) {
+        store.end_at(spot);
     }
-    end_at(log, table, mark, spot)
 }
 
 // The write that the key of the row at a place records, undone. Version keys sort behind, so that the row is still there when the version
 // is gone. Other keys stay: the callers ask before, so that there are none.
-fn undo_row(log: &mut [u8], table: &mut [u32], mark: Mark, spot: Spot, version: u64) -> Mark
-    requires { Held log.old table.old mark }
-    ensures { store_of log.new table.new result
-        ≡ undo_row (store_of log.old table.old mark) (rank spot (rows log.old table.old mark)) version }
+fn undo_row(store: &mut Store, spot: Spot, version: u64)
+    ensures lent { SameLent store.old store.new }
+    ensures state { state_of store.new ≡ undo_row (state_of store.old) (rank spot (kept store.old)) version }
 {
-    let view = View { log, table, mark };
+    let view = store.view();
     if !view.stands(spot) {
-        return mark;
+        return;
     }
     let key = view.key_at(spot);
     if !is_write(key) {
-        return mark;
+        return;
     }
     let code = named_code(key, version);
     let bytes = code.bytes;
     let n = code.len;
-    let mid = del_key(log, table, mark, &bytes[..n]);
-    end_row(log, table, mid, spot)
+    del_key(store, &bytes[..n]);
+    end_row(store, spot);
 }
 
 // The same `n` times: when a row is gone, the next one stands at its place.
-fn undo_many(
-    log: &mut [u8],
-    table: &mut [u32],
-    mark: Mark,
-    spot: Spot,
-    n: usize,
-    version: u64,
-) -> Mark
-    requires { Held log.old table.old mark }
-    ensures { store_of log.new table.new result
-        ≡ undo_many n (store_of log.old table.old mark) (rank spot (rows log.old table.old mark)) version }
+fn undo_many(store: &mut Store, spot: Spot, n: usize, version: u64)
+    ensures lent { SameLent store.old store.new }
+    ensures state { state_of store.new ≡ undo_many n (state_of store.old) (rank spot (kept store.old)) version }
 {
-    let mut left = n;
-    let mut last = mark;
-    while 0 < left {
-        last = undo_row(log, table, last, spot, version);
-        left -= 1;
+    for _ in 0..n {
+        undo_row(store, spot, version);
     }
-    last
 }
 
 // The writes of a span undone and then one key more deleted, all or none: 12, then 7. A Version key is as long as the TxnWrite key that
 // names it, so that the span's room is wanted twice.
+// By hand: log, table and mark come apart here, since that a log's items are bytes is known of a slice that is lent, not of a store's.
 pub(crate) fn undo(
     log: &mut [u8],
     table: &mut [u32],
@@ -149,16 +126,12 @@ pub(crate) fn undo(
     if !all_writes(&view, span) {
         return Err(Refusal::BadStore);
     }
-    let once = view.span_room(Some(log.len() - mark.used.len), span);
+    let once = view.span_room(Some(view.log.len() - mark.used.len), span);
     let twice = view.span_room(once, span);
-    match room_after(twice, key.len(), 0) {
-        None => Err(Refusal::LogFull),
-        Some(_) => {
-            let n = view.rows_in(span);
-            let mid = undo_many(log, table, mark, span.from, n, version);
-            let last = del_key(log, table, mid, key);
-            let used = last.used;
-            Ok(used)
-        }
-    }
+    room_after(twice, key.len(), 0).ok_or(Refusal::LogFull)?;
+    let n = view.rows_in(span);
+    let mut store = Store { log, table, mark };
+    undo_many(&mut store, span.from, n, version);
+    del_key(&mut store, key);
+    Ok(store.mark.used)
 }

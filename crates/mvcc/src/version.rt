@@ -9,12 +9,12 @@ ghost use Rattle.bitcask.specs.engine.Walks.{down_from};
 ghost use Rattle.mvcc.specs.version.Seen.{label_by, version_of, behind_part, string_part, row_says, seen_as, seen_row, record_row, last_rows};
 
 use crate::handle::Handle;
-use crate::payload::{ValueRead, read_value};
+use crate::payload::{Stored, read_value};
 use bitcask::Bound;
 use bitcask::engine::{Spot, View};
 use keycode::{Key, Part, decode};
 
-// Hidden goes on to the record below; the others decide.
+// What a record says. Hidden goes on to the record below; the others decide.
 #[derive(Clone, Copy)]
 pub enum Seen {
     Hidden,
@@ -23,44 +23,35 @@ pub enum Seen {
     Value(Part),
 }
 
-// A key that is no Version key, or where the escaped bytes of its user key stand in it, and its version.
+// What a Version key says: where the escaped bytes of its user key stand in it, and its version.
 #[derive(Clone, Copy)]
-pub enum Label {
-    None,
-    Of(Part, u64),
+pub struct Label {
+    pub string: Part,
+    pub version: u64,
 }
 
-// A row whose key is no Version key, or the place of its user key's escaped bytes and what it says.
+// A row of a Version key: the place of its user key's escaped bytes, and what it says.
 #[derive(Clone, Copy)]
-pub enum Record {
-    Junk,
-    Good(Part, Seen),
+pub struct Record {
+    pub key: Part,
+    pub seen: Seen,
 }
 
-fn label_of(key: &[u8]) -> Label
+// None of a key that is no Version key.
+fn label_of(key: &[u8]) -> Option<Label>
     ensures { result ≡ label_by (forget (decode_why max_key key.now)) }
 {
-    match decode(key) {
-        Ok(k) => match k {
-            Key::NextVersion => Label::None,
-            Key::TxnActive(_) => Label::None,
-            Key::TxnActiveSnapshot(_) => Label::None,
-            Key::TxnWrite(_, _) => Label::None,
-            Key::Version(p, v) => Label::Of(p, v),
-            Key::Unversioned(_) => Label::None,
-        },
-        Err(_) => Label::None,
-    }
+    let Key::Version(string, version) = decode(key).ok()? else {
+        return None;
+    };
+    Some(Label { string, version })
 }
 
-// The version of a Version key. Other keys do not lie among them.
+// The version of a Version key; None of other keys, which do not lie among them.
 pub(crate) fn version_of(key: &[u8]) -> Option<u64>
     ensures { result ≡ version_of (forget (decode_why max_key key.now)) }
 {
-    match label_of(key) {
-        Label::None => None,
-        Label::Of(_, v) => Some(v),
-    }
+    Some(label_of(key)?.version)
 }
 
 // A part without its first `skip` bytes.
@@ -88,9 +79,9 @@ fn value_says(view: &View, spot: Spot) -> Seen
     ensures { result ≡ row_says (row_at spot (shown view.now)) }
 {
     match read_value(view.value_at(spot)) {
-        ValueRead::Value { skip } => Seen::Value(behind(view.value_place(spot), skip)),
-        ValueRead::Gone => Seen::Gone,
-        ValueRead::Bad => Seen::Bad,
+        Some(Stored::Value { skip }) => { Seen::Value(behind(view.value_place(spot), skip)) }
+        Some(Stored::Gone) => Seen::Gone,
+        None => Seen::Bad,
     }
 }
 
@@ -117,19 +108,16 @@ fn seen_at(view: &View, spot: Spot, handle: Handle) -> Seen
     }
 }
 
-// The same with the place of its user key.
-pub(crate) fn record_at(view: &View, spot: Spot, handle: Handle) -> Record
+// The same with the place of its user key; None of a row whose key is no Version key.
+pub(crate) fn record_at(view: &View, spot: Spot, handle: Handle) -> Option<Record>
     requires { rank spot (shown view.now) < length (shown view.now) }
     ensures { result ≡ record_row handle (row_at spot (shown view.now)) }
 {
-    match label_of(view.key_at(spot)) {
-        Label::None => Record::Junk,
-        Label::Of(p, v) => {
-            let place = view.key_place(spot);
-            let key = string_part(place, p.len);
-            Record::Good(key, seen_as(view, spot, handle, v))
-        }
-    }
+    let label = label_of(view.key_at(spot))?;
+    let place = view.key_place(spot);
+    let key = string_part(place, label.string.len);
+    let seen = seen_as(view, spot, handle, label.version);
+    Some(Record { key, seen })
 }
 
 // The rows before a place, downward to `low`: the first that decides.
@@ -138,27 +126,12 @@ pub(crate) fn seek(view: &View, end: Spot, low: &[u8], handle: Handle) -> Seen
     ensures { result ≡ last_rows handle (down_from Included low.now (shown view.now) (rank end (shown view.now))) }
 {
     let mut at = end;
-    loop {
-        match view.row_before(at, Bound::Included, low) {
-            None => {
-                return Seen::Hidden;
-            }
-            Some(p) => {
-                let seen = seen_at(view, p, handle);
-                match seen {
-                    Seen::Hidden => {}
-                    Seen::Gone => {
-                        return Seen::Gone;
-                    }
-                    Seen::Bad => {
-                        return Seen::Bad;
-                    }
-                    Seen::Value(v) => {
-                        return Seen::Value(v);
-                    }
-                }
-                at = p;
-            }
-        }
+    while let Some(p) = view.row_before(at, Bound::Included, low) {
+        let seen = seen_at(view, p, handle);
+        let Seen::Hidden = seen else {
+            return seen;
+        };
+        at = p;
     }
+    Seen::Hidden
 }

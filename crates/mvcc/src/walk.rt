@@ -10,14 +10,13 @@ use crate::version::{Record, Seen, record_at};
 use bitcask::engine::{Spot, View};
 use bitcask::{Bound, KeyValue, part};
 use keycode::{Part, Refusal, compare};
-use std::cmp::Ordering;
 
 // Before the first group; within one, with what it says so far and the place of the key that said it; the same with a value and, behind
 // it, a key that does not decode; and past the end of the step.
 #[derive(Clone, Copy)]
 pub enum Walk {
     Start,
-    Within(Part, Seen),
+    Within(Record),
     Broken(Part, Part),
     Over(Result<KeyValue, Refusal>),
 }
@@ -25,131 +24,122 @@ pub enum Walk {
 fn same_string(log: &[u8], a: Part, b: Part) -> bool
     ensures { result ≡ same_string log.now a b }
 {
-    match compare(part(log, a), part(log, b)) {
-        Ordering::Less => false,
-        Ordering::Equal => true,
-        Ordering::Greater => false,
-    }
+    compare(part(log, a), part(log, b)).is_eq()
 }
 
 // What a step answers that ends behind a group.
-fn group_answer(key: Part, seen: Seen) -> Result<KeyValue, Refusal>
-    ensures { result ≡ group_answer key seen }
+fn group_answer(group: Record) -> Result<KeyValue, Refusal>
+    ensures { result ≡ group_answer group.key group.seen }
 {
-    match seen {
-        Seen::Hidden => Err(Refusal::Absent),
-        Seen::Gone => Err(Refusal::Absent),
+    match group.seen {
+        Seen::Hidden | Seen::Gone => Err(Refusal::Absent),
         Seen::Bad => Err(Refusal::BadStore),
-        Seen::Value(value) => Ok(KeyValue { key, value }),
+        Seen::Value(value) => Ok(KeyValue {
+            key: group.key,
+            value,
+        }),
     }
 }
 
-// A group with one version more, at a place k.
-fn later(key: Part, seen: Seen, k: Part, new: Seen) -> Walk
-    ensures { result ≡ later_by key seen k new }
+// A group with one version more.
+fn later(group: Record, new: Record) -> Walk
+    ensures { result ≡ later_by group.key group.seen new.key new.seen }
 {
-    match new {
-        Seen::Hidden => Walk::Within(key, seen),
-        Seen::Gone => Walk::Within(k, Seen::Gone),
-        Seen::Bad => Walk::Within(k, Seen::Bad),
-        Seen::Value(v) => Walk::Within(k, Seen::Value(v)),
+    match new.seen {
+        Seen::Hidden => Walk::Within(group),
+        _ => Walk::Within(new),
     }
 }
 
-// A group is past, and the next begins at a place k.
-fn closed(key: Part, seen: Seen, k: Part, new: Seen) -> Walk
-    ensures { result ≡ closed_by key k new seen }
+// A group is past, and the next begins.
+fn closed(group: Record, new: Record) -> Walk
+    ensures { result ≡ closed_by group.key new.key new.seen group.seen }
 {
-    match seen {
-        Seen::Hidden => Walk::Within(k, new),
-        Seen::Gone => Walk::Within(k, new),
+    match group.seen {
+        Seen::Hidden | Seen::Gone => Walk::Within(new),
         Seen::Bad => Walk::Over(Err(Refusal::BadStore)),
-        Seen::Value(value) => Walk::Over(Ok(KeyValue { key, value })),
+        Seen::Value(value) => Walk::Over(Ok(KeyValue {
+            key: group.key,
+            value,
+        })),
     }
 }
 
 // A key that does not decode comes behind a group's versions. It is not read where the group gives a pair and none of its versions follows.
-fn spoilt(key: Part, seen: Seen) -> Walk
-    ensures { result ≡ spoilt_by key seen }
+fn spoilt(group: Record) -> Walk
+    ensures { result ≡ spoilt_by group.key group.seen }
 {
-    match seen {
-        Seen::Hidden => Walk::Over(Err(Refusal::BadStore)),
-        Seen::Gone => Walk::Over(Err(Refusal::BadStore)),
-        Seen::Bad => Walk::Over(Err(Refusal::BadStore)),
-        Seen::Value(v) => Walk::Broken(key, v),
+    match group.seen {
+        Seen::Value(value) => Walk::Broken(group.key, value),
+        _ => Walk::Over(Err(Refusal::BadStore)),
     }
 }
 
-fn opened(row: Record) -> Walk
+fn opened(row: Option<Record>) -> Walk
     ensures { result ≡ opened_by row }
 {
     match row {
-        Record::Junk => Walk::Over(Err(Refusal::BadStore)),
-        Record::Good(key, seen) => Walk::Within(key, seen),
+        None => Walk::Over(Err(Refusal::BadStore)),
+        Some(new) => Walk::Within(new),
     }
 }
 
-fn within(log: &[u8], key: Part, seen: Seen, row: Record) -> Walk
-    ensures { result ≡ within_by log.now key seen row }
+fn within(log: &[u8], group: Record, row: Option<Record>) -> Walk
+    ensures { result ≡ within_by log.now group.key group.seen row }
 {
-    match row {
-        Record::Junk => spoilt(key, seen),
-        Record::Good(k, new) => {
-            if same_string(log, key, k) {
-                later(key, seen, k, new)
-            } else {
-                closed(key, seen, k, new)
-            }
-        }
+    let Some(new) = row else {
+        return spoilt(group);
+    };
+    if same_string(log, group.key, new.key) {
+        later(group, new)
+    } else {
+        closed(group, new)
     }
 }
 
-fn broken(log: &[u8], key: Part, value: Part, row: Record) -> Walk
+fn broken(log: &[u8], key: Part, value: Part, row: Option<Record>) -> Walk
     ensures { result ≡ broken_by log.now key value row }
 {
-    match row {
-        Record::Junk => Walk::Broken(key, value),
-        Record::Good(k, _) => {
-            if same_string(log, key, k) {
-                Walk::Over(Err(Refusal::BadStore))
-            } else {
-                Walk::Over(Ok(KeyValue { key, value }))
-            }
+    let Some(new) = row else {
+        return Walk::Broken(key, value);
+    };
+    if same_string(log, key, new.key) {
+        Walk::Over(Err(Refusal::BadStore))
+    } else {
+        Walk::Over(Ok(KeyValue { key, value }))
+    }
+}
+
+impl Walk {
+    // One row more; None of a row whose key is no Version key.
+    fn next(self, log: &[u8], row: Option<Record>) -> Walk
+        ensures { result ≡ next_walk log.now self row }
+    {
+        match self {
+            Walk::Start => opened(row),
+            Walk::Within(group) => within(log, group, row),
+            Walk::Broken(key, value) => broken(log, key, value, row),
+            Walk::Over(_) => self,
         }
     }
-}
 
-fn next_walk(log: &[u8], walk: Walk, row: Record) -> Walk
-    ensures { result ≡ next_walk log.now walk row }
-{
-    match walk {
-        Walk::Start => opened(row),
-        Walk::Within(key, seen) => within(log, key, seen, row),
-        Walk::Broken(key, value) => broken(log, key, value, row),
-        Walk::Over(answer) => Walk::Over(answer),
+    // What the step answers where no row follows.
+    fn answer(self) -> Result<KeyValue, Refusal>
+        ensures { result ≡ ended_by self }
+    {
+        match self {
+            Walk::Start => Err(Refusal::Absent),
+            Walk::Within(group) => group_answer(group),
+            Walk::Broken(key, value) => Ok(KeyValue { key, value }),
+            Walk::Over(answer) => answer,
+        }
     }
-}
 
-fn ended(walk: Walk) -> Result<KeyValue, Refusal>
-    ensures { result ≡ ended_by walk }
-{
-    match walk {
-        Walk::Start => Err(Refusal::Absent),
-        Walk::Within(key, seen) => group_answer(key, seen),
-        Walk::Broken(key, value) => Ok(KeyValue { key, value }),
-        Walk::Over(answer) => answer,
-    }
-}
-
-// Whether the step's answer is known: it reads no further than that.
-fn over(walk: Walk) -> bool
-    ensures { result ≡ is_over walk }
-{
-    match walk {
-        Walk::Start => false,
-        Walk::Within(_, _) => false,
-        Walk::Broken(_, _) => false,
-        Walk::Over(_) => true,
+    // Whether the step's answer is known: it reads no further than that.
+    fn is_over(self) -> bool
+        ensures { result ≡ is_over self }
+    {
+        matches!(self, Walk::Over(_))
     }
 }
 
@@ -166,20 +156,13 @@ pub(crate) fn step_from(
 {
     let mut walk = Walk::Start;
     let mut at = from;
-    loop {
-        match view.row_from(at, upper, high) {
-            None => {
-                return ended(walk);
-            }
-            Some(p) => {
-                let row = record_at(view, p, handle);
-                walk = next_walk(view.log, walk, row);
-                let known = over(walk);
-                if known {
-                    return ended(walk);
-                }
-                at = view.next(p);
-            }
+    while let Some(p) = view.row_from(at, upper, high) {
+        let row = record_at(view, p, handle);
+        walk = walk.next(view.log, row);
+        if walk.is_over() {
+            return walk.answer();
         }
+        at = view.next(p);
     }
+    walk.answer()
 }

@@ -2,13 +2,13 @@
 // along; four searches in all: the handle's key, the end of the key's versions, and each of the two keys.
 ghost use Rattle.std.specs.Prelude.{◌≡◌, ◌++◌, ◌≤◌, leb, length, None, Some};
 ghost use Rattle.keycode.specs.Limits.{max_key, max_value};
-ghost use Rattle.mvcc.specs.payload.Payloads.{value_bytes};
-ghost use Rattle.bitcask.specs.engine.Marks.{mark_of, Held};
 ghost use Rattle.bitcask.specs.engine.Views.{marked, Viewed};
+ghost use Rattle.bitcask.specs.engine.Stores.{SameLent, Counted};
+ghost use Rattle.mvcc.specs.payload.Payloads.{value_bytes};
 ghost use Rattle.mvcc.specs.write.Writes.{plan};
 ghost use Rattle.mvcc.specs.write.Promises.{Writes};
 ghost use Rattle.mvcc.specs.admission.Admits.{Allows};
-ghost use Rattle.mvcc.specs.append.Appends.{Appends};
+ghost use Rattle.mvcc.specs.append.Appends.{AppendsTo};
 
 use crate::admission::admit;
 use crate::append::pair::append_pair;
@@ -17,7 +17,7 @@ use crate::conflict::search;
 use crate::handle::Handle;
 use crate::payload::{GONE_TAG, VALUE_TAG};
 use bitcask::Used;
-use bitcask::engine::{Mark, View};
+use bitcask::engine::{Store, View};
 use keycode::Refusal;
 use keycode::code::{version_code, write_code};
 
@@ -33,32 +33,25 @@ fn allowed<'a>(
     ensures mark { Allows log.now used table.now handle klen vlen (marked result) }
     ensures view { Viewed log.now table.now result }
 {
-    match admit(log, used, table, handle) {
-        Err(r) => Err(r),
-        Ok(view) => {
-            if handle.read_only {
-                return Err(Refusal::ReadOnly);
-            }
-            match sized(klen, vlen) {
-                Err(r) => Err(r),
-                Ok(()) => Ok(view),
-            }
-        }
+    let view = admit(log, used, table, handle)?;
+    if handle.read_only {
+        return Err(Refusal::ReadOnly);
     }
+    sized(klen, vlen)?;
+    Ok(view)
 }
 
 // The two entries of a write.
 fn laid(
-    log: &mut [u8],
-    table: &mut [u32],
-    mark: Mark,
+    store: &mut Store,
     version: u64,
     key: &[u8],
     head: &[u8],
     body: &[u8],
 ) -> Result<Used, Refusal>
-    requires { (Held log.old table.old mark) × (mark ≡ mark_of mark.used table.old) × (length key.now ≤ max_key) × (length head.now ≤ 1) × (length body.now ≤ max_value) }
-    ensures { Appends log.old table.old mark (plan version key.now (head.now ++ body.now)) result log.new table.new }
+    requires { (Counted store.old) × (length key.now ≤ max_key) × (length head.now ≤ 1) × (length body.now ≤ max_value) }
+    ensures lent { SameLent store.old store.new }
+    ensures appends { AppendsTo store.old (plan version key.now (head.now ++ body.now)) result store.new }
 {
     let write = write_code(version, key);
     let write_bytes = write.bytes;
@@ -67,9 +60,7 @@ fn laid(
     let stored_bytes = stored.bytes;
     let stored_len = stored.len;
     append_pair(
-        log,
-        table,
-        mark,
+        store,
         &write_bytes[..write_len],
         &key[..0],
         &stored_bytes[..stored_len],
@@ -92,16 +83,11 @@ fn write(
     ensures { Writes log.old used.len table.old handle key.now (head.now ++ body.now) (length body.now)
         result log.new table.new }
 {
-    match allowed(log, used, table, handle, key.len(), body.len()) {
-        Err(r) => Err(r),
-        Ok(view) => match search(&view, handle, key) {
-            Err(r) => Err(r),
-            Ok(()) => {
-                let mark = view.mark;
-                laid(log, table, mark, handle.version, key, head, body)
-            }
-        },
-    }
+    let view = allowed(log, used, table, handle, key.len(), body.len())?;
+    search(&view, handle, key)?;
+    let mark = view.mark;
+    let mut store = Store { log, table, mark };
+    laid(&mut store, handle.version, key, head, body)
 }
 
 pub fn set(

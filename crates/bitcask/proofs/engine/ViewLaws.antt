@@ -38,3 +38,7 @@ module _ {log t : List ℕ} where
   -- the rows of a view that an answer gave
   pub rows_given : {r : Result View Refusal} → Viewed log t r → {v : View} → r ≡ Ok v → shown v ≡ rows log t v.mark
   rows_given says {v} e = rows_shown (says v e)
+
+-- what was lent to a store comes back as the store left it
+pub lent_back : (P : List ℕ → List ℕ → Type 0) {log t log' t' : List ℕ} → P log t → log' ≡ log → t' ≡ t → P log' t'
+lent_back P {log} {t} p e f = rw (e, f) p

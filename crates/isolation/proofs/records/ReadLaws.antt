@@ -6,13 +6,12 @@ use mathlib.Core.Logic.{ite}
 use native.Mathlib.Omega.{arith}
 use lib.ListN.{length}
 use borrow.Author.Tests.{ne_eqb, le-leb}
-use Rattle.std.specs.Prelude.{Some, Option, None}
+use Rattle.std.specs.Prelude.{Ok, Some, Option, None}
 use Rattle.keycode.specs.Limits.{max_open}
 use Rattle.keycode.proofs.Basics.{nope}
 use Rattle.keycode.specs.key.Keys.{Fields, encode, next_version, txn_active_snapshot}
 use Rattle.bitcask.specs.keydir.Place.{All, all_none, all_more}
 use Rattle.bitcask.specs.recovery.Map.{look_in}
-use Rattle.mvcc.specs.declared.payload.SetAnswer.TheVariants as SetAnswers
 use Rattle.mvcc.specs.handle.Handles.{handle_of}
 use Rattle.mvcc.specs.payload.Payloads.{set_for}
 use Rattle.mvcc.proofs.payload.PayloadLaws.{first_reads}
@@ -51,12 +50,12 @@ module _ {m : Map} (s : Sorted key_order m) (a : All Fine m) where
       go (Some (plain_rec k b)) w = nope (cc (w (plain_rec k b) refl).0)
 
   pub snapshot_pairs : (v : ℕ)
-      → snapshot_read v (look_in (encode (txn_active_snapshot v)) (pairs_in m)) ≡ record { answer = SetAnswers.Fine; handle = handle_of v true (set_of (look m (txn_active_snapshot v))) }
+      → snapshot_read v (look_in (encode (txn_active_snapshot v)) (pairs_in m)) ≡ Ok (handle_of v true (set_of (look m (txn_active_snapshot v))))
   unfolding snapshot_read set_for payload_of handle_of
   snapshot_pairs v = ap (snapshot_read v) (look-pairs (txn_active_snapshot v) s) ∙ go (look m (txn_active_snapshot v)) (look-says a (txn_active_snapshot v))
     where
       go : (z : Option Rec) → ((r : Rec) → z ≡ Some r → (key_of r ≡ txn_active_snapshot v) × Fine r)
-          → snapshot_read v (payload_in z) ≡ record { answer = SetAnswers.Fine; handle = handle_of v true (set_of z) }
+          → snapshot_read v (payload_in z) ≡ Ok (handle_of v true (set_of z))
       go None w = refl
       go (Some (next_rec n)) w = nope (cc (w (next_rec n) refl).0)
       go (Some (active_rec u)) w = nope (cc (w (active_rec u) refl).0)

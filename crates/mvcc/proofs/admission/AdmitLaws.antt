@@ -5,7 +5,7 @@ use mathlib.Core.Bool.{Bool, true, false, not}
 use mathlib.Core.List.{List}
 use lib.ListN.{length, take}
 use borrow.Author.Tests.{not-true, not-false}
-use Rattle.std.specs.Prelude.{Result, Ok, Err}
+use Rattle.std.specs.Prelude.{Result, Ok, Err, is_ok}
 use Rattle.keycode.specs.declared.refusal.Refusal.{Refusal}
 use Rattle.keycode.specs.declared.refusal.Refusal.TheVariants.{NotOpen, BadRequest}
 use Rattle.keycode.proofs.Basics.{nope}
@@ -14,9 +14,10 @@ use Rattle.bitcask.specs.recovery.Agree.{fit, Agrees}
 use Rattle.bitcask.specs.declared.engine.mark.Mark.{Mark}
 use Rattle.bitcask.specs.engine.Rows.{Row, rows}
 use Rattle.bitcask.specs.engine.Marks.{mark_of, entered_by, Held, Agreeing}
-use Rattle.bitcask.specs.engine.Spots.{has_row}
+use Rattle.bitcask.specs.declared.engine.spot.Spot.{Spot}
+use Rattle.bitcask.specs.engine.Spots.{placed, place_by, has_row}
 use Rattle.bitcask.proofs.engine.RowLaws.{rows_agree}
-use Rattle.bitcask.proofs.engine.LookLaws.{has_in}
+use Rattle.bitcask.proofs.engine.LookLaws.{has_in, found_has, absent_has}
 use Rattle.bitcask.proofs.engine.SpotLaws.{in_fits, in_held, refused_fits}
 use Rattle.mvcc.specs.declared.handle.Handle.{Handle}
 use Rattle.mvcc.specs.handle.Handles.{sound_handle}
@@ -25,6 +26,11 @@ use Rattle.keycode.specs.code.Codes.{Codes}
 use Rattle.mvcc.specs.request.Checks.{active_key, open_by, admit_by, open_in}
 use Rattle.mvcc.proofs.request.CheckLaws.{open_live}
 use Rattle.mvcc.specs.admission.Admits.{check_of, Admits}
+
+-- whether the search found a row
+pub found_live : (key : List ℕ) (rs : List Row) (f : Result Spot Spot) → placed f rs ≡ place_by key rs → is_ok f ≡ has_row key rs
+found_live key rs (Ok p) says = found_has key rs says p refl
+found_live key rs (Err p) says = absent_has key rs says p refl
 
 -- the look-up of the handle's key by its code
 pub open_look : (rs : List Row) (h : Handle) (c : Code) (b : Bool) → h.read_only ≡ false → (h.version ≡ 0 → ⊥) → (h.version ≡ 2 ^ 64 - 1 → ⊥) → Codes c (active_key h)

@@ -26,12 +26,9 @@ use Rattle.bitcask.proofs.engine.LookLaws.{found_row, absent_row}
 use Rattle.bitcask.proofs.engine.SpotLaws.{in_fits, in_agreeing, refused_fits}
 use Rattle.keycode.specs.declared.code.Code.{Code}
 use Rattle.mvcc.specs.declared.handle.Handle.{Handle}
-use Rattle.mvcc.specs.declared.payload.SetAnswer.{SetAnswer}
-use Rattle.mvcc.specs.declared.payload.SetAnswer.TheVariants as SetAnswers
-use Rattle.mvcc.specs.declared.payload.SetRead.{SetRead}
 use Rattle.keycode.specs.code.Codes.{Codes}
 use Rattle.mvcc.specs.handle.Handles.{rising, handle_of, blank_handle}
-use Rattle.mvcc.specs.payload.Payloads.{set_in, set_for, few_enough, refused_set}
+use Rattle.mvcc.specs.payload.Payloads.{set_in, set_for, few_enough}
 use Rattle.mvcc.specs.declared.begun.Begun.{Begun}
 use Rattle.mvcc.specs.snapshot.Active.{next_in, next_at}
 use Rattle.mvcc.specs.request.Given.{refused_by, begun_with, begun_number}
@@ -46,29 +43,29 @@ module _ (rs : List Row) (v : ℕ) {c : Code} (w : Codes c (encode (txn_active_s
   stored_row : look_row (take c.len c.bytes) rs ≡ look_row (encode (txn_active_snapshot v)) rs
   stored_row = ap (λ (k : List ℕ). look_row k rs) w.says
 
-  pub stored_none : f ≡ Err p → record { answer = SetAnswers.Fine; handle = h } ≡ snapshot_read v (row_value (look_row (encode (txn_active_snapshot v)) rs))
+  pub stored_none : f ≡ Err p → Ok h ≡ snapshot_read v (row_value (look_row (encode (txn_active_snapshot v)) rs))
   unfolding snapshot_read
   stored_none e = rw (← stored_row, absent_row (take c.len c.bytes) rs says p e, eh)
 
-  pub stored_some : f ≡ Ok p → {b : List ℕ} {r : SetRead} → b ≡ (row_at p rs).value → r ≡ set_for h (set_in b) → r ≡ snapshot_read v (row_value (look_row (encode (txn_active_snapshot v)) rs))
+  pub stored_some : f ≡ Ok p → {b : List ℕ} {r : Result Handle Refusal} → b ≡ (row_at p rs).value → r ≡ set_for h (set_in b) → r ≡ snapshot_read v (row_value (look_row (encode (txn_active_snapshot v)) rs))
   unfolding snapshot_read
   stored_some e eb er = rw (← stored_row, found_row (take c.len c.bytes) rs says p e, er, eb, eh)
 
 -- ---- every refusal comes with a blank handle, and none is 13
 
-set-number : (h : Handle) (o : Option (List ℕ)) (y : Refusal) → (set_for h o).answer ≡ SetAnswers.Refused y → eqb (number_of y) 13 ≡ false
+set-number : (h : Handle) (o : Option (List ℕ)) (y : Refusal) → set_for h o ≡ Err y → eqb (number_of y) 13 ≡ false
 unfolding set_for
 set-number h None y e = let q : y ≡ BadStore = cc in rw q
 set-number h (Some vs) y e = go (few_enough vs) (rising vs) e
   where
     go : (a b : Bool)
-        → (pick a (pick b (record { answer = SetAnswers.Fine; handle = handle_of h.version h.read_only vs }) (refused_set BadStore)) (refused_set TooManyOpen)).answer ≡ SetAnswers.Refused y
+        → pick a (pick b (Ok (handle_of h.version h.read_only vs)) (Err BadStore)) (Err TooManyOpen) ≡ Err y
         → eqb (number_of y) 13 ≡ false
     go true true f = nope (cc)
     go true false f = let q : y ≡ BadStore = cc in rw q
     go false b f = let q : y ≡ TooManyOpen = cc in rw q
 
-read_number : (v : ℕ) (p : Option (List ℕ)) (y : Refusal) → (snapshot_read v p).answer ≡ SetAnswers.Refused y → eqb (number_of y) 13 ≡ false
+read_number : (v : ℕ) (p : Option (List ℕ)) (y : Refusal) → snapshot_read v p ≡ Err y → eqb (number_of y) 13 ≡ false
 unfolding snapshot_read
 read_number v None y e = nope (cc)
 read_number v (Some p) y e = set-number (handle_of v true []) (set_in p) y e
@@ -76,17 +73,17 @@ read_number v (Some p) y e = set-number (handle_of v true []) (set_in p) y e
 abbrev Clear : Begun → Type 0
 Clear r = (r.handle ≡ if_done (begun_number r) r.handle blank_handle) × (eqb (begun_number r) 13 ≡ false)
 
-clear_with : (used : ℕ) (a : SetAnswer) (h : Handle) → ((y : Refusal) → a ≡ SetAnswers.Refused y → eqb (number_of y) 13 ≡ false) → Clear (as_of_with used a h)
-clear_with used SetAnswers.Fine h f = (refl, refl)
-clear_with used (SetAnswers.Refused y) h f = (refused_stays y blank_handle blank_handle, f y refl)
+clear_with : (used : ℕ) (a : Result Handle Refusal) → ((y : Refusal) → a ≡ Err y → eqb (number_of y) 13 ≡ false) → Clear (as_of_with used a)
+clear_with used (Ok h) f = (refl, refl)
+clear_with used (Err y) f = (refused_stays y blank_handle blank_handle, f y refl)
 
 clear : (used v : ℕ) (n : Option ℕ) (p : Option (List ℕ)) → Clear (as_of_by used v n p)
 clear used v None p = (refl, refl)
 clear used v (Some n) p = go (leb n v)
   where
-    go : (b : Bool) → Clear (pick b (refused_by NoSuchVersion) (as_of_with used (snapshot_read v p).answer (snapshot_read v p).handle))
+    go : (b : Bool) → Clear (pick b (refused_by NoSuchVersion) (as_of_with used (snapshot_read v p)))
     go true = (refl, refl)
-    go false = clear_with used (snapshot_read v p).answer (snapshot_read v p).handle (read_number v p)
+    go false = clear_with used (snapshot_read v p) (read_number v p)
 
 -- ---- the promise
 
@@ -121,12 +118,12 @@ module _ (log : List ℕ) (used : Used) (t : List ℕ) (v : ℕ) {a : Result Mar
       pub as_of_late : {r : Begun} → n ≤ v → r ≡ refused_by NoSuchVersion → BeginsAsOf log used.len t v r
       as_of_late h q = as_of_made (q ∙ rw (y, le-leb n v h))
 
-      module _ (h : v < n) {s : SetRead} (es : s ≡ snapshot_read v (row_value (look_row (encode (txn_active_snapshot v)) (rows log t m)))) where
-        as_of_read : {r : Begun} → r ≡ as_of_with used.len s.answer s.handle → BeginsAsOf log used.len t v r
+      module _ (h : v < n) {s : Result Handle Refusal} (es : s ≡ snapshot_read v (row_value (look_row (encode (txn_active_snapshot v)) (rows log t m)))) where
+        as_of_read : {r : Begun} → r ≡ as_of_with used.len s → BeginsAsOf log used.len t v r
         as_of_read q = as_of_made (q ∙ rw (y, lt-leb n v h, es))
 
-        pub as_of_done : {r : Begun} → s.answer ≡ SetAnswers.Fine → r ≡ begun_with used.len s.handle → BeginsAsOf log used.len t v r
-        as_of_done b q = as_of_read (q ∙ rw b)
+        pub as_of_done : {r : Begun} (g : Handle) → s ≡ Ok g → r ≡ begun_with used.len g → BeginsAsOf log used.len t v r
+        as_of_done g b q = as_of_read (q ∙ rw b)
 
-        pub as_of_refused : {r : Begun} (z : Refusal) → s.answer ≡ SetAnswers.Refused z → r ≡ refused_by z → BeginsAsOf log used.len t v r
+        pub as_of_refused : {r : Begun} (z : Refusal) → s ≡ Err z → r ≡ refused_by z → BeginsAsOf log used.len t v r
         as_of_refused z b q = as_of_read (q ∙ rw b)

@@ -2,56 +2,56 @@
 -- makes. Assumes nothing.
 use Prim.Native.Nat.{ℕ, zero, suc, ◌+◌, ◌-◌, ◌^◌, ◌<◌, ◌≤◌, min}
 use mathlib.Core.Path.{◌≡◌, refl, sym, ap, ◌∙◌}
-use mathlib.Core.Bool.{Bool, true, false}
+use mathlib.Core.Bool.{Bool, true, false, ◌||◌}
 use mathlib.Core.List.{List, [], ◌∷◌, ◌++◌, append_assoc, append-nil}
 use native.Mathlib.Decide.{dec_le}
 use native.Mathlib.Omega.{arith}
 use native.Mathlib.Numerals.{add-one}
-use lib.Dec.{leb, ltb}
-use lib.ListN.{length, take, drop, get_or, set, replicate, drop_of_length-le, length-append, length-drop}
-use lib.Seq.{drop-cons, take_all, take_at, set-append_seam}
-use borrow.Author.Tests.{eq-eqb, ne_eqb, lt-ltb, le-ltb, le-leb, lt-leb}
+use lib.Dec.{eqb, leb, ltb}
+use lib.ListN.{length, take, get_or, set, replicate, length-append}
+use lib.Seq.{take_all, take_at, set-append_seam}
+use borrow.Author.Tests.{lt-ltb, le-ltb, le-leb, lt-leb}
+use Rattle.std.specs.List.{list_any, IsAllAdjacentAnswer}
 use Rattle.keycode.specs.Tests.{pick}
 use Rattle.keycode.specs.Limits.{max_open}
 use Rattle.mvcc.specs.declared.handle.Handle.{Handle}
 use Rattle.mvcc.specs.handle.Handles.{memb, rising, rising_from, set_of, sees, first_or, lowest_of, sound_handle, handle_of, with_version, with_all}
 
--- ---- the loops over a set
+-- ---- sets
 
-module _ (s : List ℕ) (v i : ℕ) (inv : memb v s ≡ memb v (drop i s)) where
-  pub memb_end : length s ≤ i → false ≡ memb v s
-  unfolding memb
-  memb_end h = sym (inv ∙ rw (drop_of_length-le s))
+or_pick : (a b : Bool) → (a || b) ≡ pick a true b
+or_pick true b = refl
+or_pick false b = refl
 
-  module _ (h : i < length s) where
-    pub memb-here : get_or s i 0 ≡ v → true ≡ memb v s
-    unfolding memb
-    memb-here e = sym (inv ∙ rw (drop-cons s i 0, eq-eqb (get_or s i 0) v e))
+-- what `contains` tells
+memb_any : (v : ℕ) (s : List ℕ) → list_any (λ (x : ℕ). eqb x v) s ≡ memb v s
+unfolding memb
+memb_any v [] = refl
+memb_any v (x ∷ s) = rw (memb_any v s) (or_pick (eqb x v) (memb v s))
 
-    pub memb-next : (get_or s i 0 ≡ v → ⊥) → memb v s ≡ memb v (drop (i + 1) s)
-    unfolding memb
-    memb-next n = inv ∙ rw (add-one, drop-cons s i 0, ne_eqb (get_or s i 0) v n)
+pick_none : (b : Bool) → pick b false false ≡ false
+pick_none true = refl
+pick_none false = refl
 
-short-rises : (s : List ℕ) → length s ≤ 1 → rising s ≡ true
-unfolding rising rising_from
-short-rises [] h = refl
-short-rises (x ∷ []) h = refl
-short-rises (x ∷ y ∷ s) h = absurd (omega arith)
+-- each is above the one before, or one is not
+climbs : (x : ℕ) (s : List ℕ) → ((k : ℕ) → suc k < length (x ∷ s) → ltb (get_or (x ∷ s) k 0) (get_or (x ∷ s) (suc k) 0) ≡ true) → rising_from x s ≡ true
+unfolding rising_from
+climbs x [] f = refl
+climbs x (y ∷ s) f = let e : ltb x y ≡ true = f 0 (omega arith) in rw (e, climbs y s (λ k h. f (suc k) (omega arith)))
 
-module _ (s : List ℕ) (j i : ℕ) (ei : i ≡ j + 1) (inv : rising s ≡ rising (drop j s)) where
-  pub rising_end : length s ≤ i → true ≡ rising s
-  rising_end h = sym (inv ∙ short-rises (drop j s) (simp length-drop (omega arith)))
+falls : (x : ℕ) (s : List ℕ) (k : ℕ) → suc k < length (x ∷ s) → ltb (get_or (x ∷ s) k 0) (get_or (x ∷ s) (suc k) 0) ≡ false → rising_from x s ≡ false
+unfolding rising_from
+falls x [] k h e = absurd (omega arith)
+falls x (y ∷ s) zero h e = rw e
+falls x (y ∷ s) (suc k) h e = rw (falls y s k (omega arith) e) (pick_none (ltb x y))
 
-  module _ (h : i < length s) where
-    rising-at : rising s ≡ pick (ltb (get_or s j 0) (get_or s i 0)) (rising (drop i s)) false
-    unfolding rising rising_from
-    rising-at = inv ∙ rw (ei, add-one, drop-cons s j 0 (omega arith), drop-cons s (suc j) 0 (omega arith))
-
-    pub rising_not : get_or s i 0 ≤ get_or s j 0 → false ≡ rising s
-    rising_not k = sym (rising-at ∙ rw (le-ltb (get_or s j 0) (get_or s i 0) k))
-
-    pub rising-next : get_or s j 0 < get_or s i 0 → rising s ≡ rising (drop i s)
-    rising-next k = rising-at ∙ rw (lt-ltb (get_or s j 0) (get_or s i 0) k)
+-- what `is_sorted_by` tells
+pub rising_told : (s : List ℕ) (r : Bool) → IsAllAdjacentAnswer (λ (x y : ℕ) (b : Bool). b ≡ ltb x y) s r → r ≡ rising s
+unfolding rising
+rising_told [] true w = refl
+rising_told [] false w = absurd (omega (arith, w.1))
+rising_told (x ∷ s) true w = sym (climbs x s (λ k h. rw add-one at (sym (w k 0 (omega arith)))))
+rising_told (x ∷ s) false w = sym (falls x s w.0 (omega (arith, w.1)) (rw add-one at (sym (w.2 0))))
 
 -- ---- the methods
 
@@ -73,9 +73,19 @@ module _ (h : Handle) (given : length h.set ≡ max_open) where
       ap (λ (k : ℕ). take k h.set) (e ∙ ap (λ (k : ℕ). min h.count k) (sym full))
       ∙ take_min h.set h.count
 
-  module _ (v n : ℕ) {b : Bool} (en : n ≡ min h.count max_open) (eb : b ≡ memb v (take n h.set)) where
+  pub lowest_set : 0 < h.count → get_or h.set 0 0 ≡ lowest_of h
+  unfolding lowest_of set_of first_or
+  lowest_set k = go h.count h.set k (omega (arith, full))
+    where
+      go : (n : ℕ) (s : List ℕ) → 0 < n → 0 < length s → get_or s 0 0 ≡ first_or h.version (take n s)
+      go zero s a b = absurd (omega arith)
+      go (suc n) [] a b = absurd (omega arith)
+      go (suc n) (x ∷ s) a b = refl
+
+module _ (h : Handle) where
+  module _ (v : ℕ) {b : Bool} {s : List ℕ} (es : s ≡ set_of h) (eb : b ≡ list_any (λ (x : ℕ). eqb x v) s) where
     told : b ≡ memb v (set_of h)
-    told = eb ∙ ap (memb v) (set_part n en)
+    told = eb ∙ memb_any v s ∙ ap (memb v) es
 
     pub sees_not : b ≡ true → false ≡ sees h v
     unfolding sees
@@ -89,31 +99,17 @@ module _ (h : Handle) (given : length h.set ≡ max_open) where
     unfolding sees
     sees-upto e r = rw (← told, e, r)
 
-  pub lowest_set : 0 < h.count → get_or h.set 0 0 ≡ lowest_of h
+  pub lowest_own : h.count ≤ 0 → min (h.version + 1) (2 ^ 64 - 1) ≡ lowest_of h
   unfolding lowest_of set_of first_or
-  lowest_set k = go h.count h.set k (omega (arith, full))
-    where
-      go : (n : ℕ) (s : List ℕ) → 0 < n → 0 < length s → get_or s 0 0 ≡ first_or h.version (take n s)
-      go zero s a b = absurd (omega arith)
-      go (suc n) [] a b = absurd (omega arith)
-      go (suc n) (x ∷ s) a b = refl
+  lowest_own k = let e : h.count ≡ 0 = omega arith in rw e
 
-module _ (h : Handle) where
-  pub lowest_own : h.count ≤ 0 → h.version < 2 ^ 64 - 1 → h.version + 1 ≡ lowest_of h
-  unfolding lowest_of set_of first_or
-  lowest_own k m = let e : h.count ≡ 0 = omega arith in rw e (omega arith)
-
-  pub lowest-max : h.count ≤ 0 → 2 ^ 64 - 1 ≤ h.version → h.version < 2 ^ 64 → h.version ≡ lowest_of h
-  unfolding lowest_of set_of first_or
-  lowest-max k m f = let e : h.count ≡ 0 = omega arith in rw e (omega arith)
-
-  pub sound_not : max_open < h.count → false ≡ sound_handle h
+  pub sound_not : max_open < h.count → leb h.count max_open ≡ sound_handle h
   unfolding sound_handle
   sound_not k = rw (lt-leb h.count max_open k)
 
-  pub sound_if : h.count ≤ max_open → {b : Bool} → b ≡ rising (take h.count h.set) → b ≡ sound_handle h
-  unfolding sound_handle set_of
-  sound_if k e = e ∙ rw (le-leb h.count max_open k)
+  pub sound_if : h.count ≤ max_open → {s : List ℕ} → s ≡ set_of h → {b : Bool} → b ≡ rising s → b ≡ sound_handle h
+  unfolding sound_handle
+  sound_if k es e = e ∙ ap rising es ∙ rw (le-leb h.count max_open k)
 
   pub with_room : (v : ℕ) → h.count < max_open
       → record { version = h.version; read_only = h.read_only; count = h.count + 1; set = set h.set h.count v } ≡ with_version h v

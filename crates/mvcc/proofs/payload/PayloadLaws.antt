@@ -1,5 +1,5 @@
 -- Laws of the first edition's payloads: what is written is read back, and what each reader and writer answers. Assumes nothing.
-use Prim.Native.Nat.{ℕ, zero, suc, ◌+◌, ◌-◌, ◌*◌, ◌/◌, ◌%◌, ◌<◌, ◌≤◌, min}
+use Prim.Native.Nat.{ℕ, zero, suc, ◌+◌, ◌-◌, ◌*◌, ◌/◌, ◌%◌, ◌<◌, ◌≤◌}
 use mathlib.Core.Path.{◌≡◌, refl, sym, ap, ◌∙◌}
 use mathlib.Core.Bool.{Bool, true, false}
 use mathlib.Core.List.{List, [], ◌∷◌, ◌++◌}
@@ -8,22 +8,19 @@ use native.Mathlib.Numerals.{add-one}
 use lib.ListN.{length, take, drop, get_or, length-append, length-take, drop_of_length-le}
 use lib.Seq.{take_at, drop_at, drop-cons, drop-drop}
 use borrow.Author.Tests.{ne_eqb, le-leb, lt-leb}
-use Rattle.std.specs.Prelude.{Some, None}
+use Rattle.std.specs.Prelude.{Some, None, Ok, Err}
 use Rattle.keycode.specs.Limits.{max_open}
 use Rattle.keycode.specs.Number.{be, num}
 use Rattle.keycode.specs.Buffer.{put}
-use Rattle.keycode.specs.declared.refusal.Refusal.{Refusal}
 use Rattle.keycode.specs.declared.refusal.Refusal.TheVariants.{TooManyOpen, BadStore}
 use Rattle.keycode.proofs.Basics.{nope}
 use Rattle.keycode.proofs.NumberLaws.{num-be, length-be}
 use Rattle.keycode.proofs.BufferLaws.{Laying, lay-front, lay-more, lay_end, lay-room}
 use Rattle.mvcc.specs.declared.handle.Handle.{Handle}
-use Rattle.mvcc.specs.declared.payload.ValueRead.TheVariants.{Value, Gone, Bad}
-use Rattle.mvcc.specs.declared.payload.SetAnswer.TheVariants.{Fine, Refused}
-use Rattle.mvcc.specs.declared.payload.SetRead.{SetRead}
-use Rattle.mvcc.specs.handle.Handles.{rising, set_of, sound_handle, handle_of, blank_handle, with_version, with_all}
-use Rattle.mvcc.specs.payload.Payloads.{value_at, ReadsBack, Versions, version_in, set_bytes, versions_of, set_in, value_bytes, value_in, first, refused_set, set_for}
-use Rattle.mvcc.proofs.handle.HandleLaws.{set_part, made_all, made_sound}
+use Rattle.mvcc.specs.declared.payload.Stored.TheVariants.{Value, Gone}
+use Rattle.mvcc.specs.handle.Handles.{rising, set_of, sound_handle, handle_of, with_version, with_all}
+use Rattle.mvcc.specs.payload.Payloads.{value_at, ReadsBack, Versions, version_in, set_bytes, versions_of, set_in, value_bytes, value_in, first, set_for}
+use Rattle.mvcc.proofs.handle.HandleLaws.{made_all, made_sound}
 
 -- ---- read after write
 
@@ -61,47 +58,48 @@ module _ (b : List ℕ) where
   unfolding version_in
   version_read v h e = rw (e, h)
 
-pub value_none : (b : List ℕ) → length b < 1 → Bad ≡ value_in b
+pub value_none : (b : List ℕ) → length b < 1 → None ≡ value_in b
 unfolding value_in
 value_none [] h = refl
 value_none (x ∷ b) h = absurd (omega arith)
 
-pub value_some : (b : List ℕ) → 1 ≤ length b → get_or b 0 0 ≡ 1 → Value 1 ≡ value_in b
+pub value_some : (b : List ℕ) → 1 ≤ length b → get_or b 0 0 ≡ 1 → Some (Value 1) ≡ value_in b
 unfolding value_in
 value_some [] h e = absurd (omega arith)
 value_some (zero ∷ b) h e = absurd (omega arith)
 value_some (suc zero ∷ b) h e = refl
 value_some (suc (suc t) ∷ b) h e = absurd (omega arith)
 
-pub value-other : (b : List ℕ) → 1 ≤ length b → (get_or b 0 0 ≡ 1 → ⊥) → (get_or b 0 0 ≡ 0 → ⊥) → Bad ≡ value_in b
+pub value_gone : (b : List ℕ) → length b ≡ 1 → get_or b 0 0 ≡ 0 → Some Gone ≡ value_in b
+unfolding value_in
+value_gone [] h e = absurd (omega arith)
+value_gone (zero ∷ []) h e = refl
+value_gone (zero ∷ y ∷ b) h e = absurd (omega arith)
+value_gone (suc t ∷ b) h e = absurd (omega arith)
+
+pub value-other : (b : List ℕ) → 1 ≤ length b → (get_or b 0 0 ≡ 1 → ⊥) → (get_or b 0 0 ≡ 0 → ⊥) → None ≡ value_in b
 unfolding value_in
 value-other [] h f g = refl
 value-other (zero ∷ b) h f g = absurd (g refl)
 value-other (suc zero ∷ b) h f g = absurd (f refl)
 value-other (suc (suc t) ∷ b) h f g = refl
 
-pub value_gone : (b : List ℕ) → get_or b 0 0 ≡ 0 → length b ≡ 1 → Gone ≡ value_in b
+pub value-long : (b : List ℕ) → 2 ≤ length b → (get_or b 0 0 ≡ 1 → ⊥) → None ≡ value_in b
 unfolding value_in
-value_gone [] e h = absurd (omega arith)
-value_gone (zero ∷ []) e h = refl
-value_gone (zero ∷ y ∷ b) e h = absurd (omega arith)
-value_gone (suc t ∷ b) e h = absurd (omega arith)
+value-long [] h f = refl
+value-long (zero ∷ []) h f = absurd (omega arith)
+value-long (zero ∷ y ∷ b) h f = refl
+value-long (suc zero ∷ b) h f = absurd (f refl)
+value-long (suc (suc t) ∷ b) h f = refl
 
 -- a value starts within its payload
-pub skip_within : (b : List ℕ) (k : ℕ) → value_in b ≡ Value k → k ≤ length b
+pub skip_within : (b : List ℕ) (k : ℕ) → value_in b ≡ Some (Value k) → k ≤ length b
 unfolding value_in
 skip_within [] k e = nope (cc)
 skip_within (zero ∷ []) k e = nope (cc)
 skip_within (zero ∷ y ∷ r) k e = nope (cc)
 skip_within (suc zero ∷ r) k e = let z : 1 ≡ k = cc in omega arith
 skip_within (suc (suc t) ∷ r) k e = nope (cc)
-
-pub value_left : (b : List ℕ) → 1 ≤ length b → get_or b 0 0 ≡ 0 → (length b ≡ 1 → ⊥) → Bad ≡ value_in b
-unfolding value_in
-value_left [] h e f = refl
-value_left (zero ∷ []) h e f = absurd (f refl)
-value_left (zero ∷ y ∷ b) h e f = refl
-value_left (suc t ∷ b) h e f = absurd (omega arith)
 
 -- ---- reading a set
 
@@ -131,22 +129,19 @@ unfolding versions_of
 versions-long zero b = refl
 versions-long (suc n) b = ap suc (versions-long n (drop 8 b))
 
-pub refused_made : (r : Refusal) (h : Handle) → h ≡ blank_handle → record { answer = Refused r; handle = h } ≡ refused_set r
-refused_made r h e = rw e
-
 module _ (b : List ℕ) (h : Handle) where
-  pub set_odd : {r : SetRead} → (length b % 8 ≡ 0 → ⊥) → r ≡ refused_set BadStore → r ≡ set_for h (set_in b)
+  pub set_odd : (length b % 8 ≡ 0 → ⊥) → Err BadStore ≡ set_for h (set_in b)
   unfolding set_in set_for
-  set_odd k e = e ∙ rw (ne_eqb (length b % 8) 0 k)
+  set_odd k = rw (ne_eqb (length b % 8) 0 k)
 
   module _ (whole : length b % 8 ≡ 0) where
     set-whole : set_for h (set_in b) ≡ set_for h (Some (versions_of (length b / 8) b))
     unfolding set_in
     set-whole = rw whole
 
-    pub set-many : {r : SetRead} → max_open < length b / 8 → r ≡ refused_set TooManyOpen → r ≡ set_for h (set_in b)
+    pub set-many : max_open < length b / 8 → Err TooManyOpen ≡ set_for h (set_in b)
     unfolding set_for
-    set-many k e = e ∙ sym (set-whole ∙ rw (versions-long (length b / 8) b, lt-leb (length b / 8) max_open k))
+    set-many k = sym (set-whole ∙ rw (versions-long (length b / 8) b, lt-leb (length b / 8) max_open k))
 
     module _ (few : length b / 8 ≤ max_open) (q : Handle) (made : q ≡ with_all (handle_of h.version h.read_only []) (versions_of (length b / 8) b))
         (so : Bool) (says : so ≡ sound_handle q) where
@@ -156,11 +151,11 @@ module _ (b : List ℕ) (h : Handle) where
       rises-so : so ≡ rising (versions_of (length b / 8) b)
       rises-so = says ∙ ap sound_handle gathers ∙ made_sound h.version h.read_only (versions_of (length b / 8) b) (rw (versions-long (length b / 8) b) few)
 
-      pub set_down : {r : SetRead} → so ≡ false → r ≡ refused_set BadStore → r ≡ set_for h (set_in b)
+      pub set_down : so ≡ false → Err BadStore ≡ set_for h (set_in b)
       unfolding set_for
-      set_down e f = f ∙ sym (set-whole ∙ rw (versions-long (length b / 8) b, le-leb (length b / 8) max_open few, ← rises-so, e))
+      set_down e = sym (set-whole ∙ rw (versions-long (length b / 8) b, le-leb (length b / 8) max_open few, ← rises-so, e))
 
-      pub set_fine : so ≡ true → record { answer = Fine; handle = q } ≡ set_for h (set_in b)
+      pub set_fine : so ≡ true → Ok q ≡ set_for h (set_in b)
       unfolding set_for
       set_fine e = sym (set-whole ∙ rw (versions-long (length b / 8) b, le-leb (length b / 8) max_open few, ← rises-so, e, gathers))
 
@@ -185,10 +180,6 @@ module _ (s : List ℕ) (i : ℕ) {d out : List ℕ} {o : ℕ} (w : Laying d 0 (
   unfolding set_bytes
   set-laid h = let q = lay_end w (ap set_bytes (drop_of_length-le s h)) in (omega (arith, q.0), q.1)
 
-pub set-few : (h : Handle) (n : ℕ) → n ≡ min h.count max_open → {m : ℕ} → 8 * max_open ≤ m → 8 * length (take n h.set) ≤ m
-set-few h n e k = simp length-take (omega arith)
-
--- the part of a handle's array that its count allows, written
-pub set-written : (h : Handle) → length h.set ≡ max_open → (n : ℕ) → n ≡ min h.count max_open → (d : List ℕ) {r : ℕ} {out : List ℕ}
-    → (r ≡ length (set_bytes (take n h.set))) × (out ≡ put d 0 (set_bytes (take n h.set))) → (r ≡ length (set_bytes (set_of h))) × (out ≡ put d 0 (set_bytes (set_of h)))
-set-written h given n e d w = rw (set_part h given n e) at w
+pub set-few : (h : Handle) → length h.set ≡ max_open → {s : List ℕ} → s ≡ set_of h → {m : ℕ} → 8 * max_open ≤ m → 8 * length s ≤ m
+unfolding set_of
+set-few h f e k = rw e (simp length-take (omega (arith, f)))

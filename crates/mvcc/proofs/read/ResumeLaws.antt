@@ -81,8 +81,8 @@ module _ (log : List ℕ) (used : Used) (t : List ℕ) (h : Handle) {a : Result 
         answer = λ z. q ∙ rw (open_rows log used t h z);
       }
 
-  pub resume_refused : (r : Refusal) (b : Handle) → a ≡ Err r → b ≡ blank_handle → Resumes log used.len t h (record { answer = Err r; handle = b })
-  resume_refused r b e eb = keeps (rw (e, eb))
+  pub resume_refused : (r : Refusal) → a ≡ Err r → Resumes log used.len t h (record { answer = Err r; handle = blank_handle })
+  resume_refused r e = keeps (rw e)
 
   pub resume_done : (m : Mark) → a ≡ Ok m → Resumes log used.len t h (record { answer = Ok used; handle = h })
   resume_done m e = keeps (rw e)

@@ -23,8 +23,8 @@ use Rattle.bitcask.specs.engine.Ranges.{keep_rows}
 use Rattle.bitcask.proofs.engine.RowLaws.{in_stand}
 use Rattle.bitcask.proofs.engine.RangeLaws.{keep_in, keep_all}
 use Rattle.mvcc.specs.declared.handle.Handle.{Handle}
-use Rattle.mvcc.specs.declared.payload.ValueRead.{ValueRead}
-use Rattle.mvcc.specs.declared.payload.ValueRead.TheVariants as Payload
+use Rattle.mvcc.specs.declared.payload.Stored.{Stored}
+use Rattle.mvcc.specs.declared.payload.Stored.TheVariants as Payload
 use Rattle.mvcc.specs.handle.Handles.{sees, sound_handle}
 use Rattle.mvcc.specs.payload.Payloads.{value_in, value_at}
 use Rattle.mvcc.specs.request.Checks.{admit_by, open_in}
@@ -44,13 +44,13 @@ shown_by log Bad = Some None
 shown_by log (Value p) = Some (Some (Some (take p.len (drop p.at log))))
 
 module _ (h : Handle) (log : List ℕ) where
-  value-view : (r : Row) → Stands log r → (v : ValueRead) → shown_by log (says_by (value_place r) v) ≡ Some (value_at r.value v)
-  value-view r w (Payload.Value k) =
+  value-view : (r : Row) → Stands log r → (v : Option Stored) → shown_by log (says_by (value_place r) v) ≡ Some (value_at r.value v)
+  value-view r w (Some (Payload.Value k)) =
       ap (λ (x : List ℕ). Some (Some (Some x)))
       (ap (take (length r.value - k)) (sym (drop-drop k (r.at + length r.key) log)) ∙ drop-take k (length r.value) (drop (r.at + length r.key) log)
       ∙ ap (drop k) w.value)
-  value-view r w Payload.Gone = refl
-  value-view r w Payload.Bad = refl
+  value-view r w (Some Payload.Gone) = refl
+  value-view r w None = refl
 
   seen_view : (r : Row) → Stands log r → shown_by log (seen_row h r) ≡ pair_says h (record { key = r.key; value = r.value })
   unfolding seen_row pair_says row_says

@@ -21,7 +21,6 @@ use Rattle.bitcask.specs.declared.engine.mark.Mark.{Mark}
 use Rattle.bitcask.specs.engine.Rows.{rows}
 use Rattle.bitcask.specs.engine.Marks.{entered_by}
 use Rattle.bitcask.proofs.engine.SpotLaws.{in_fits, in_agreeing, refused_fits}
-use Rattle.mvcc.specs.declared.handle.Handle.{Handle}
 use Rattle.mvcc.specs.handle.Handles.{handle_of, blank_handle}
 use Rattle.mvcc.proofs.handle.HandleLaws.{made_all}
 use Rattle.mvcc.specs.declared.snapshot.Seen.{Seen}
@@ -33,17 +32,17 @@ use Rattle.mvcc.specs.read_only.Promises.{BeginsReading}
 use Rattle.mvcc.proofs.snapshot.AgreedLaws.{next-agrees, active_agrees}
 
 -- the answer by what was seen
-abbrev reading_of : ℕ → Option ℕ → Handle → Begun
-reading_of used None h = refused_by BadStore
-reading_of used (Some k) h = pick (leb k max_open) (begun_with used h) (refused_by TooManyOpen)
+abbrev reading_of : ℕ → Option Seen → Begun
+reading_of used None = refused_by BadStore
+reading_of used (Some s) = pick (leb s.tally max_open) (begun_with used s.handle) (refused_by TooManyOpen)
 
-reading_seen : (used : ℕ) (v : Option ℕ) (o : Option (List ℕ)) → reading_of used (seen_by true v o).tally (seen_by true v o).handle ≡ reading_by used v o
+reading_seen : (used : ℕ) (v : Option ℕ) (o : Option (List ℕ)) → reading_of used (seen_by true v o) ≡ reading_by used v o
 unfolding seen_from
 reading_seen used None o = refl
 reading_seen used (Some v) None = refl
 reading_seen used (Some v) (Some vs) = go (dec_le (length vs) max_open)
   where
-    go : Dec (length vs ≤ max_open) → reading_of used (seen_by true (Some v) (Some vs)).tally (seen_by true (Some v) (Some vs)).handle ≡ reading_by used (Some v) (Some vs)
+    go : Dec (length vs ≤ max_open) → reading_of used (seen_by true (Some v) (Some vs)) ≡ reading_by used (Some v) (Some vs)
     go (yes h) = let z : 0 + length vs ≡ length vs = omega arith in rw (z, le-leb (length vs) max_open h, made_all v true [] vs (omega arith))
     go (no h) = let z : 0 + length vs ≡ length vs = omega arith in rw (z, lt-leb (length vs) max_open (omega arith))
 
@@ -68,9 +67,9 @@ module _ (log : List ℕ) (used : Used) (t : List ℕ) {a : Result Mark Refusal}
       let z : r ≡ refused_by BadRequest = q ∙ ap refused_by w.1 in
       rw z (record { blank = refl; bad = rw w.0; answer = λ g. nope (cc (g.sound, w.0)) })
 
-  module _ (m : Mark) (e : a ≡ Ok m) (b : Bytes log) {s : Seen}
+  module _ (m : Mark) (e : a ≡ Ok m) (b : Bytes log) {s : Option Seen}
       (seen : s ≡ seen_by true (next_in (rows log t m)) (versions_in (keys_in (active_rows (rows log t m))))) where
-    reading_made : r ≡ reading_of used.len s.tally s.handle → BeginsReading log used.len t r
+    reading_made : r ≡ reading_of used.len s → BeginsReading log used.len t r
     reading_made y =
         let v = next_in (rows log t m) in
         let o = versions_in (keys_in (active_rows (rows log t m))) in
@@ -87,12 +86,12 @@ module _ (log : List ℕ) (used : Used) (t : List ℕ) {a : Result Mark Refusal}
               ∙ ap (λ (n : ℕ). reading_by used.len (next_at (map_of log n)) (active_at (map_of log n))) u;
         })
 
-    pub reading_bad : s.tally ≡ None → r ≡ refused_by BadStore → BeginsReading log used.len t r
+    pub reading_bad : s ≡ None → r ≡ refused_by BadStore → BeginsReading log used.len t r
     reading_bad y q = reading_made (q ∙ rw y)
 
-    module _ (k : ℕ) (y : s.tally ≡ Some k) where
-      pub reading_many : max_open < k → r ≡ refused_by TooManyOpen → BeginsReading log used.len t r
-      reading_many h q = reading_made (q ∙ rw (y, lt-leb k max_open h))
+    module _ (k : Seen) (y : s ≡ Some k) where
+      pub reading_many : max_open < k.tally → r ≡ refused_by TooManyOpen → BeginsReading log used.len t r
+      reading_many h q = reading_made (q ∙ rw (y, lt-leb k.tally max_open h))
 
-      pub reading_done : k ≤ max_open → r ≡ begun_with used.len s.handle → BeginsReading log used.len t r
-      reading_done h q = reading_made (q ∙ rw (y, le-leb k max_open h))
+      pub reading_done : k.tally ≤ max_open → r ≡ begun_with used.len k.handle → BeginsReading log used.len t r
+      reading_done h q = reading_made (q ∙ rw (y, le-leb k.tally max_open h))

@@ -4,7 +4,7 @@ use mathlib.Core.Path.{◌≡◌}
 use mathlib.Core.Bool.{Bool, true, false}
 use mathlib.Core.List.{List, [], ◌∷◌}
 use lib.Dec.{eqb}
-use Rattle.std.specs.Prelude.{Result, Ok, Err}
+use Rattle.std.specs.Prelude.{Result, Ok, Err, Option, None, Some}
 use Rattle.bitcask.specs.declared.answers.KeyValue.{KeyValue}
 use Rattle.keycode.specs.declared.refusal.Refusal.{Refusal}
 use Rattle.keycode.specs.Tests.{pick}
@@ -16,7 +16,6 @@ use Rattle.mvcc.specs.declared.handle.Handle.{Handle}
 use Rattle.mvcc.specs.declared.version.Seen.{Seen}
 use Rattle.mvcc.specs.declared.version.Seen.TheVariants.{Hidden, Gone, Bad, Value}
 use Rattle.mvcc.specs.declared.version.Record.{Record}
-use Rattle.mvcc.specs.declared.version.Record.TheVariants.{Junk, Good}
 use Rattle.mvcc.specs.version.Seen.{record_row}
 use Rattle.mvcc.specs.declared.walk.Walk.{Walk}
 use Rattle.mvcc.specs.declared.walk.Walk.TheVariants.{Start, Within, Broken, Over}
@@ -58,13 +57,14 @@ spoilt_quiet k Gone = breaks
 spoilt_quiet k Bad = breaks
 spoilt_quiet k (Value v) = gives k v
 
-next_quiet : (log : List ℕ) (w : Walk) (x : Record) → Quiet w → Quiet (next_walk log w x)
-next_quiet log Start Junk q = breaks
-next_quiet log Start (Good k x) q = group_quiet k x
-next_quiet log (Within key x) Junk q = spoilt_quiet key x
-next_quiet log (Within key x) (Good k y) q = pick_quiet (same_string log key k) (later_by key x k y) (closed_by key k y x) (later_quiet key x k y) (closed_quiet key k y x)
-next_quiet log (Broken key v) Junk q = gives key v
-next_quiet log (Broken key v) (Good k y) q = pick_quiet (same_string log key k) (Over (Err BadStore)) (Over (Ok (record { key = key; value = v }))) breaks (gives key v)
+next_quiet : (log : List ℕ) (w : Walk) (x : Option Record) → Quiet w → Quiet (next_walk log w x)
+next_quiet log Start None q = breaks
+next_quiet log Start (Some n) q = group_quiet n.key n.seen
+next_quiet log (Within g) None q = spoilt_quiet g.key g.seen
+next_quiet log (Within g) (Some n) q =
+    pick_quiet (same_string log g.key n.key) (later_by g.key g.seen n.key n.seen) (closed_by g.key n.key n.seen g.seen) (later_quiet g.key g.seen n.key n.seen) (closed_quiet g.key n.key n.seen g.seen)
+next_quiet log (Broken key v) None q = gives key v
+next_quiet log (Broken key v) (Some n) q = pick_quiet (same_string log key n.key) (Over (Err BadStore)) (Over (Ok (record { key = key; value = v }))) breaks (gives key v)
 next_quiet log (Over a) x q = q
 
 module _ (h : Handle) (log : List ℕ) where

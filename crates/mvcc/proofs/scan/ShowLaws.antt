@@ -33,8 +33,8 @@ use Rattle.mvcc.specs.declared.version.Seen.TheVariants.{Hidden, Gone, Bad, Valu
 use Rattle.mvcc.specs.declared.version.Record.{Record}
 use Rattle.mvcc.specs.version.Seen.{record_row}
 use Rattle.mvcc.specs.declared.walk.Walk.{Walk}
-use Rattle.mvcc.specs.declared.walk.Walk.TheVariants.{Start, Within, Broken, Over}
-use Rattle.mvcc.specs.walk.Walks.{part_of, same_string, later_by, group_answer, closed_by, spoilt_by, within_by, broken_by, opened_by, ended_by, walk_rows, step_rows}
+use Rattle.mvcc.specs.declared.walk.Walk.TheVariants.{Start, Broken, Over}
+use Rattle.mvcc.specs.walk.Walks.{part_of, same_string, in_group, later_by, group_answer, closed_by, spoilt_by, within_by, broken_by, opened_by, ended_by, walk_rows, step_rows}
 use Rattle.mvcc.proofs.walk.UpLaws.{Rises, rises-more, in_rises, keep-rises}
 use Rattle.mvcc.specs.scan.Promises.{checked_step, keys_by, scan_answer, Scanning}
 use Rattle.mvcc.specs.scan.Steps.{Stamp, stamp_of, Given, Sight, hidden, gone, bad, shows, sight_of, same_user, is_of, any_of, or_sight}
@@ -128,7 +128,7 @@ module _ (h : Handle) (log : List ℕ) where
   answer-shown k Bad = refl
   answer-shown k (Value v) = refl
 
-  closed_shown : (key k : Part) (y x : Seen) (rs : List Row) → from (closed_by key k y x) rs ≡ step_by true (shown log key x) (from (Within k y) rs)
+  closed_shown : (key k : Part) (y x : Seen) (rs : List Row) → from (closed_by key k y x) rs ≡ step_by true (shown log key x) (from (in_group k y) rs)
   closed_shown key k y Hidden rs = refl
   closed_shown key k y Gone rs = refl
   closed_shown key k y Bad rs = over-stays (Err BadStore) rs
@@ -155,10 +155,10 @@ module _ (h : Handle) (log : List ℕ) where
       go : Told h log r (record_row h r) (stamp_of r.key) → from (Broken key v) rs ≡ pick (any_of u (pairs rs)) None a
           → from (broken_by log key v (record_row h r)) rs ≡ pick (pick (is_of u (stamp_of r.key)) true (any_of u (pairs rs))) None a
       go (junk p q) ih =
-          ap (λ (x : Record). from (broken_by log key v x) rs) p ∙ ih
+          ap (λ (x : Option Record). from (broken_by log key v x) rs) p ∙ ih
           ∙ ap (λ (o : Option Stamp). pick (pick (is_of u o) true (any_of u (pairs rs))) None a) (sym q)
       go (good k y z p q f g) ih =
-          ap (λ (x : Record). from (broken_by log key v x) rs) p
+          ap (λ (x : Option Record). from (broken_by log key v x) rs) p
           ∙ ap (λ (b : Bool). from (pick b (Over (Err BadStore)) (Over (Ok (record { key = key; value = v })))) rs) (strings log key k u z.user e f)
           ∙ by z (same_user u z.user) refl (rest_none w q)
           ∙ ap (λ (o : Option Stamp). pick (pick (is_of u o) true (any_of u (pairs rs))) None a) (sym q)
@@ -172,7 +172,7 @@ module _ (h : Handle) (log : List ℕ) where
 
   -- a group with one version more says what the later one does, if the handle sees that, at its own place
   later-shown : (rs : List Row) (o : Option (Option Given)) (key k : Part) (x i : Seen) (y z : Sight)
-      → ((q : Part) (j : Seen) → (part_of log q ≡ part_of log key) → shown log q j ≡ escaped (or_sight z y) → from (Within q j) rs ≡ o)
+      → ((q : Part) (j : Seen) → (part_of log q ≡ part_of log key) → shown log q j ≡ escaped (or_sight z y) → from (in_group q j) rs ≡ o)
       → part_of log k ≡ part_of log key → shown log key x ≡ escaped y → shown log k i ≡ escaped z → from (later_by key x k i) rs ≡ o
   later-shown rs o key k x Hidden y z ih c f d = ih key x refl ((λ j. or_sight (d j) (f j)) ∙ or_escaped z y)
   later-shown rs o key k x Gone y z ih c f d = ih k Gone c ((λ j. or_sight (d j) (f j)) ∙ or_escaped z y)
@@ -180,7 +180,7 @@ module _ (h : Handle) (log : List ℕ) where
   later-shown rs o key k x (Value v) y z ih c f d = ih k (Value v) c ((λ j. or_sight (d j) (f j)) ∙ or_escaped z y)
 
   within-shown : (rs : List Row) (s : Stamp) → Rest log s rs → (key : Part) (x : Seen) (y : Sight) → part_of log key ≡ escape_body s.user → shown log key x ≡ escaped y
-      → from (Within key x) rs ≡ escaped_step (onward h s.user y (pairs rs))
+      → from (in_group key x) rs ≡ escaped_step (onward h s.user y (pairs rs))
   unfolding walk_rows pairs onward highest clean_to step_pairs
   within-shown [] s w key x y e f = answer-shown key x ∙ ap (λ (z : Sight). step_by true z (Some None)) f ∙ step_escaped true y (Some None)
   within-shown (r ∷ rs) s w key x y e f =
@@ -191,14 +191,14 @@ module _ (h : Handle) (log : List ℕ) where
 
       go : Told h log r (record_row h r) (stamp_of r.key)
           → ((t : Stamp) → Rest log t rs → (k : Part) (i : Seen) (o : Sight) → part_of log k ≡ escape_body t.user → shown log k i ≡ escaped o
-          → from (Within k i) rs ≡ escaped_step (onward h t.user o (pairs rs)))
+          → from (in_group k i) rs ≡ escaped_step (onward h t.user o (pairs rs)))
           → from (within_by log key x (record_row h r)) rs ≡ escaped_step (onward h u y (pair_of r ∷ pairs rs))
       go (junk p q) ih =
-          ap (λ (n : Record). from (within_by log key x n) rs) p ∙ spoilt_shown rs s (rest_more w) key x e
+          ap (λ (n : Option Record). from (within_by log key x n) rs) p ∙ spoilt_shown rs s (rest_more w) key x e
           ∙ ap (λ (z : Sight). pick (any_of u (pairs rs)) None (step_by true z None)) f ∙ pick_escaped (any_of u (pairs rs)) y
           ∙ ap escaped_step (sym (on_junk h (pair_of r) (pairs rs) u y q))
       go (good k i z p q c d) ih =
-          ap (λ (n : Record). from (within_by log key x n) rs) p
+          ap (λ (n : Option Record). from (within_by log key x n) rs) p
           ∙ ap (λ (b : Bool). from (pick b (later_by key x k i) (closed_by key k i x)) rs) (strings log key k u z.user e c)
           ∙ by (same_user u z.user) refl
         where
@@ -222,10 +222,10 @@ module _ (h : Handle) (log : List ℕ) where
     where
       go : Told h log r (record_row h r) (stamp_of r.key) → from (opened_by (record_row h r)) rs ≡ escaped_step (step_on h (pair_of r) (pairs rs) (stamp_of r.key) (step_pairs h (pairs rs)))
       go (junk p q) =
-          ap (λ (x : Record). from (opened_by x) rs) p ∙ over-stays (Err BadStore) rs
+          ap (λ (x : Option Record). from (opened_by x) rs) p ∙ over-stays (Err BadStore) rs
           ∙ ap (λ (b : Option Stamp). escaped_step (step_on h (pair_of r) (pairs rs) b (step_pairs h (pairs rs)))) (sym q)
       go (good k x z p q c d) =
-          ap (λ (n : Record). from (opened_by n) rs) p ∙ within-shown rs z (rest_first o st q) k x (sight_of h z r.value) c d
+          ap (λ (n : Option Record). from (opened_by n) rs) p ∙ within-shown rs z (rest_first o st q) k x (sight_of h z r.value) c d
           ∙ ap escaped_step (sym (step-first h (pair_of r) (pairs rs) z q))
 
   -- the step over rows by the bytes at its places is the step over their pairs

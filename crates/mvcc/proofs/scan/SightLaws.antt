@@ -18,15 +18,14 @@ use Rattle.keycode.specs.declared.key.Key.TheVariants.{NextVersion, TxnActive, T
 use Rattle.keycode.proofs.StringLaws.{escape-length}
 use Rattle.bitcask.specs.engine.Rows.{Row, key_place, value_place, Stands}
 use Rattle.mvcc.specs.declared.handle.Handle.{Handle}
-use Rattle.mvcc.specs.declared.payload.ValueRead.{ValueRead}
-use Rattle.mvcc.specs.declared.payload.ValueRead.TheVariants as Payload
+use Rattle.mvcc.specs.declared.payload.Stored.{Stored}
+use Rattle.mvcc.specs.declared.payload.Stored.TheVariants as Payload
 use Rattle.mvcc.specs.handle.Handles.{sees}
 use Rattle.mvcc.specs.payload.Payloads.{value_in, value_at}
 use Rattle.mvcc.proofs.request.LookLaws.{drop-take}
 use Rattle.mvcc.specs.declared.version.Seen.{Seen}
 use Rattle.mvcc.specs.declared.version.Seen.TheVariants.{Hidden, Gone, Bad, Value}
 use Rattle.mvcc.specs.declared.version.Record.{Record}
-use Rattle.mvcc.specs.declared.version.Record.TheVariants.{Junk, Good}
 use Rattle.mvcc.specs.version.Seen.{label_by, string_part, says_by, row_says, seen_as, record_by, record_row}
 use Rattle.mvcc.specs.walk.Walks.{part_of}
 use Rattle.mvcc.specs.scan.Steps.{Stamp, stamp_by, stamp_of, Given, Sight, hidden, gone, bad, shows, sight_by, sight_of}
@@ -63,14 +62,14 @@ module _ (log : List ℕ) (r : Row) (w : Stands log r) where
       ∙ named_part n ∙ ap escape_body (sym (named-user n))
 
   module _ (k : Part) (z : Stamp) (e : part_of log k ≡ escape_body z.user) where
-    value-shown : (v : ValueRead) → shown log k (says_by (value_place r) v) ≡ escaped (sight_by z.user (value_at r.value v))
-    value-shown (Payload.Value skip) =
+    value-shown : (v : Option Stored) → shown log k (says_by (value_place r) v) ≡ escaped (sight_by z.user (value_at r.value v))
+    value-shown (Some (Payload.Value skip)) =
         let q : take (length r.value - skip) (drop (r.at + length r.key + skip) log) ≡ drop skip r.value =
         ap (take (length r.value - skip)) (sym (drop-drop skip (r.at + length r.key) log)) ∙ drop-take skip (length r.value) (drop (r.at + length r.key) log)
         ∙ ap (drop skip) w.value in
         λ j. shows (record { user = e j; value = q j })
-    value-shown Payload.Gone = refl
-    value-shown Payload.Bad = refl
+    value-shown (Some Payload.Gone) = refl
+    value-shown None = refl
 
     seen_shown : (h : Handle) → shown log k (seen_as h (row_says r) z.version) ≡ escaped (sight_of h z r.value)
     unfolding row_says sight_of
@@ -81,9 +80,9 @@ module _ (log : List ℕ) (r : Row) (w : Stands log r) where
         go false = refl
 
 -- what a record is, of a row whose key has a stamp or none
-pub data Told (h : Handle) (log : List ℕ) (r : Row) (x : Record) (stamp : Option Stamp) : Type 0 where
-  junk : x ≡ Junk → stamp ≡ None → Told h log r x stamp
-  good : (k : Part) (i : Seen) (z : Stamp) → x ≡ Good k i → stamp ≡ Some z → part_of log k ≡ escape_body z.user → shown log k i ≡ escaped (sight_of h z r.value) → Told h log r x stamp
+pub data Told (h : Handle) (log : List ℕ) (r : Row) (x : Option Record) (stamp : Option Stamp) : Type 0 where
+  junk : x ≡ None → stamp ≡ None → Told h log r x stamp
+  good : (k : Part) (i : Seen) (z : Stamp) → x ≡ Some (record { key = k; seen = i }) → stamp ≡ Some z → part_of log k ≡ escape_body z.user → shown log k i ≡ escaped (sight_of h z r.value) → Told h log r x stamp
 
 pub told : (h : Handle) (log : List ℕ) (r : Row) → Stands log r → Told h log r (record_row h r) (stamp_of r.key)
 unfolding record_row stamp_of

@@ -1,13 +1,16 @@
 -- What the code reads at a begin, for any table: NextVersion, the version of a key, and the walk over the open versions. Assumes nothing.
 use Prim.Native.Nat.{ℕ, suc, ◌+◌, ◌-◌, ◌≤◌, ◌<◌}
 use mathlib.Core.Path.{◌≡◌, refl, sym, ap, ◌∙◌}
-use mathlib.Core.Bool.{Bool, true, false}
+use mathlib.Core.Bool.{Bool, true, false, not}
 use mathlib.Core.List.{List, [], ◌∷◌}
 use native.Mathlib.Omega.{arith}
-use lib.Dec.{leb}
+use lib.Dec.{eqb, leb}
 use lib.ListN.{length, take, drop}
 use borrow.Author.Tests.{ne_eqb, eq-eqb, leb-true, leb-false}
 use Rattle.std.specs.Prelude.{Result, Ok, Err, Option, ℕ, Some, None}
+use Rattle.std.specs.Bool.{then_some}
+use Rattle.std.specs.Option.{MatchOption}
+use Rattle.keycode.specs.Tests.{pick}
 use Rattle.keycode.specs.Number.{num}
 use Rattle.keycode.specs.key.Keys.{encode, next_version}
 use Rattle.keycode.specs.Prefix.{prefix_end}
@@ -31,12 +34,19 @@ use Rattle.mvcc.specs.handle.Handles.{handle_of, with_version, with_all}
 use Rattle.mvcc.specs.payload.Payloads.{version_in}
 use Rattle.mvcc.specs.request.Ranges.{active_prefix}
 use Rattle.mvcc.specs.declared.snapshot.Seen.{Seen}
-use Rattle.mvcc.specs.snapshot.Active.{next_by, next_of, next_in, active_in, cons_read, versions_in, keys_in, active_rows, bad_seen, seen_from, seen_by}
+use Rattle.mvcc.specs.snapshot.Active.{next_by, next_of, next_in, active_in, cons_read, versions_in, keys_in, active_rows, seen_from, seen_by}
 
 -- ---- NextVersion
 
-pub next_own : {r : Option ℕ} (v : ℕ) → r ≡ Some v → (v ≡ 0 → ⊥) → Some v ≡ next_by r
-next_own v e n = rw (e, ne_eqb v 0 n)
+kept_by : (b : Bool) (x : ℕ) → then_some (not b) x ≡ pick b None (Some x)
+kept_by true x = refl
+kept_by false x = refl
+
+-- what `filter` tells
+pub next_kept : (R : ℕ → Bool → Type 0) → ((x : ℕ) (b : Bool) → R x b → b ≡ not (eqb x 0)) → (o : Option ℕ) {r : Option ℕ}
+    → MatchOption o (r ≡ None) (λ (x : ℕ). (b : Bool) × R x b × (r ≡ then_some b x)) → r ≡ next_by o
+next_kept R f None w = w
+next_kept R f (Some x) w = w.2 ∙ rw (f x w.0 w.1) (kept_by (eqb x 0) x)
 
 module _ (rs : List Row) (c : Code) (w : Codes c (encode next_version)) (f : Result Spot Spot) (says : placed f rs ≡ place_by (take c.len c.bytes) rs) (p : Spot) where
   next_row : look_row (take c.len c.bytes) rs ≡ look_row (encode next_version) rs
@@ -71,7 +81,7 @@ pub record Gathering (rs : List Row) (from to : Spot) (start handle : Handle) (n
 pub gather_start : (rs : List Row) (from to : Spot) (start : Handle) → Gathering rs from to start start 0 from
 gather_start rs from to start = record { near = omega arith; so = refl }
 
-seen_bad : (n : ℕ) (h : Handle) (o : Option (List ℕ)) → seen_from n h (cons_read None o) ≡ bad_seen
+seen_bad : (n : ℕ) (h : Handle) (o : Option (List ℕ)) → seen_from n h (cons_read None o) ≡ None
 unfolding seen_from
 seen_bad n h o = refl
 
@@ -80,7 +90,7 @@ unfolding seen_from with_all
 seen_more n h v None = refl
 seen_more n h v (Some vs) =
     let e : n + suc (length vs) ≡ n + 1 + length vs = omega arith in
-    λ j. record { tally = Some (e j); handle = with_all (with_version h v) vs }
+    λ j. Some (record { tally = e j; handle = with_all (with_version h v) vs })
 
 -- the rows of a span, by its first
 span-over : (rs : List Row) (at to : Spot) → rank to rs ≤ rank at rs → rank to rs ≤ length rs → between at to rs ≡ []
@@ -98,13 +108,13 @@ span-first rs at to h k = from_next rs (rank at rs) (rank to rs) h k
 -- whether it is over is told by ranks
 module _ {rs : List Row} {from to : Spot} {start handle : Handle} {n : ℕ} {at : Spot} (w : Gathering rs from to start handle n at) (k : rank to rs ≤ length rs)
     {b : Bool} (eb : b ≡ leb (rank to rs) (rank at rs)) where
-  pub gather_end : b ≡ true → record { tally = Some n; handle = handle } ≡ seen_from 0 start (versions_in (keys_in (between from to rs)))
+  pub gather_end : b ≡ true → Some (record { tally = n; handle = handle }) ≡ seen_from 0 start (versions_in (keys_in (between from to rs)))
   unfolding seen_from versions_in keys_in with_all
   gather_end q =
       let h : rank to rs ≤ rank at rs = leb-true (rank to rs) (rank at rs) (sym eb ∙ q) in
       let d : between at to rs ≡ [] = span-over rs at to h k in
       let e : n ≡ n + 0 = omega arith in
-      (λ j. record { tally = Some (e j); handle = handle }) ∙ ap (λ (l : List Row). seen_from n handle (versions_in (keys_in l))) (sym d) ∙ w.so
+      (λ j. Some (record { tally = e j; handle = handle })) ∙ ap (λ (l : List Row). seen_from n handle (versions_in (keys_in l))) (sym d) ∙ w.so
 
   module _ (q : b ≡ false) where
     before : rank at rs < rank to rs
@@ -123,11 +133,11 @@ module _ {rs : List Row} {from to : Spot} {start handle : Handle} {n : ℕ} {at 
           ap (λ (x : Option ℕ). seen_from n handle (cons_read x (versions_in (keys_in (between next to rs))))) (read ∙ ap active_in ek)
           ∙ ap (λ (l : List Row). seen_from n handle (versions_in (keys_in l))) (sym d) ∙ w.so
 
-      pub gather_bad : {y : Seen} → r ≡ None → y ≡ bad_seen → y ≡ seen_from 0 start (versions_in (keys_in (between from to rs)))
+      pub gather_bad : r ≡ None → None ≡ seen_from 0 start (versions_in (keys_in (between from to rs)))
       unfolding versions_in keys_in
-      gather_bad {y} e f =
+      gather_bad e =
           let d : between at to rs ≡ row_at at rs ∷ rows_from (suc (rank at rs)) (rank to rs) rs = span-first rs at to before k in
-          f ∙ sym (seen_bad n handle (versions_in (keys_in (rows_from (suc (rank at rs)) (rank to rs) rs))))
+          sym (seen_bad n handle (versions_in (keys_in (rows_from (suc (rank at rs)) (rank to rs) rs))))
           ∙ ap (λ (x : Option ℕ). seen_from n handle (cons_read x (versions_in (keys_in (rows_from (suc (rank at rs)) (rank to rs) rs))))) (sym e ∙ read ∙ ap active_in ek)
           ∙ ap (λ (l : List Row). seen_from n handle (versions_in (keys_in l))) (sym d) ∙ w.so
 
@@ -151,13 +161,13 @@ pub active_rows_lem : (rs : List Row) (r : Span) → Prefixes rs active_prefix r
 unfolding active_rows
 active_rows_lem rs r w = span_range Included active_prefix (end_bound (prefix_end active_prefix)) (end_bytes active_prefix (prefix_end active_prefix)) w
 
-pub actives_seen : (rs : List Row) (start : Handle) (r : Span) {q : Seen} → Prefixes rs active_prefix r
+pub actives_seen : (rs : List Row) (start : Handle) (r : Span) {q : Option Seen} → Prefixes rs active_prefix r
     → q ≡ seen_from 0 start (versions_in (keys_in (between r.from r.to rs))) → q ≡ seen_from 0 start (versions_in (keys_in (active_rows rs)))
 actives_seen rs start r w e = e ∙ ap (λ (l : List Row). seen_from 0 start (versions_in (keys_in l))) (active_rows_lem rs r w)
 
-pub round_bad : (ro : Bool) {v r : Option ℕ} (o : Option (List ℕ)) {q : Seen} → r ≡ v → r ≡ None → q ≡ bad_seen → q ≡ seen_by ro v o
-round_bad ro o er e f = rw (← er, e, f)
+pub round_bad : (ro : Bool) {v r : Option ℕ} (o : Option (List ℕ)) → r ≡ v → r ≡ None → None ≡ seen_by ro v o
+round_bad ro o er e = rw (← er, e)
 
-pub round_seen : (ro : Bool) {x r : Option ℕ} (o : Option (List ℕ)) (v : ℕ) {h : Handle} {q : Seen} → r ≡ x → r ≡ Some v → h ≡ handle_of v ro [] → q ≡ seen_from 0 h o
+pub round_seen : (ro : Bool) {x r : Option ℕ} (o : Option (List ℕ)) (v : ℕ) {h : Handle} {q : Option Seen} → r ≡ x → r ≡ Some v → h ≡ handle_of v ro [] → q ≡ seen_from 0 h o
     → q ≡ seen_by ro x o
 round_seen ro o v er e eh eq = rw (← er, e, eq, eh)

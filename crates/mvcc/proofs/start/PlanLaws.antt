@@ -5,7 +5,7 @@ use mathlib.Core.List.{List, [], ◌∷◌, ◌++◌, append-nil}
 use native.Mathlib.Omega.{arith}
 use lib.ListN.{length, take, drop, drop_of_length-le}
 use lib.Seq.{take_at}
-use Rattle.std.specs.Prelude.{Result, Ok, Err}
+use Rattle.std.specs.Prelude.{Result}
 use Rattle.std.specs.declared.cmp.Ordering.TheVariants.{Less}
 use Rattle.keycode.specs.Buffer.{put}
 use Rattle.keycode.specs.Order.{compare_nat, compare_bytes}
@@ -19,9 +19,6 @@ use Rattle.bitcask.specs.declared.engine.mark.Mark.{Mark}
 use Rattle.mvcc.specs.declared.handle.Handle.{Handle}
 use Rattle.mvcc.specs.handle.Handles.{set_of}
 use Rattle.mvcc.specs.payload.Payloads.{version_bytes, set_bytes}
-use Rattle.mvcc.specs.declared.begun.Begun.{Begun}
-use Rattle.mvcc.specs.request.Given.{refused_by, begun_with}
-use Rattle.mvcc.specs.start.Begins.{begun_by}
 use Rattle.mvcc.specs.append.Appends.{Appends}
 use Rattle.mvcc.proofs.append.PairLaws.{pair_of}
 use Rattle.mvcc.proofs.append.ThreeLaws.{three_of}
@@ -68,23 +65,7 @@ module _ (log t : List ℕ) (m : Mark) (k v : ℕ) (p : List ℕ) (a b : Code) (
       go zero h = absurd (h refl)
       go (suc i) h = unfold plan_by snapshot_by in (rw (wa.says, wb.says, wc.says, ev) at w)
 
--- ---- the handle that comes with the answer
-
-module _ (log t : List ℕ) (m : Mark) (k : ℕ) (h : Handle) {p : List ℕ} (ep : p ≡ set_bytes (set_of h)) {c : Result Used Refusal} {log' t' : List ℕ}
-    (w : Appends log t m (plan_by k h.version p) c log' t') where
-  same_answer : (x : Result Used Refusal) → x ≡ c → Appends log t m (plan_by k h.version (set_bytes (set_of h))) x log' t'
-  same_answer x e =
-      subst (λ (y : Result Used Refusal). Appends log t m (plan_by k h.version (set_bytes (set_of h))) y log' t') (sym e)
-      (subst (λ (b : List ℕ). Appends log t m (plan_by k h.version b) c log' t') ep w)
-
-  pub start_refused : {r : Begun} (y : Refusal) → c ≡ Err y → r ≡ refused_by y
-      → (r ≡ begun_by r.answer h) × Appends log t m (plan_by k h.version (set_bytes (set_of h))) r.answer log' t'
-  start_refused {r} y e q =
-      let z : r.answer ≡ Err y = ap (λ (x : Begun). x.answer) q in
-      (q ∙ ap (λ (x : Result Used Refusal). begun_by x h) (sym z), same_answer r.answer (z ∙ sym e))
-
-  pub start_given : {r : Begun} (u : Used) → c ≡ Ok u → r ≡ begun_with u.len h
-      → (r ≡ begun_by r.answer h) × Appends log t m (plan_by k h.version (set_bytes (set_of h))) r.answer log' t'
-  start_given {r} u e q =
-      let z : r.answer ≡ Ok u = ap (λ (x : Begun). x.answer) q in
-      (q ∙ ap (λ (x : Result Used Refusal). begun_by x h) (sym z), same_answer r.answer (z ∙ sym e))
+-- the payload is the handle's set
+pub set_laid : (log t : List ℕ) (m : Mark) (k : ℕ) (h : Handle) {p : List ℕ} → p ≡ set_bytes (set_of h) → {c : Result Used Refusal} {log' t' : List ℕ}
+    → Appends log t m (plan_by k h.version p) c log' t' → Appends log t m (plan_by k h.version (set_bytes (set_of h))) c log' t'
+set_laid log t m k h ep {c} {log'} {t'} w = subst (λ (b : List ℕ). Appends log t m (plan_by k h.version b) c log' t') ep w

@@ -62,20 +62,20 @@ pub record SeenOpen (nv : Option ℕ) (o : Option (List ℕ)) (k : ℕ) (h : Han
   pub many : k ≡ length vs
   pub handle : h ≡ with_all (handle_of v false []) vs
 
-pub seen_open : (nv : Option ℕ) (o : Option (List ℕ)) (k : ℕ) {s : Seen} → s ≡ seen_by false nv o → s.tally ≡ Some k → SeenOpen nv o k s.handle
+pub seen_open : (nv : Option ℕ) (o : Option (List ℕ)) (k : Seen) {s : Option Seen} → s ≡ seen_by false nv o → s ≡ Some k → SeenOpen nv o k.tally k.handle
 unfolding seen_from
-seen_open None o k e t = let q : None ≡ Some k = ap (λ (x : Seen). x.tally) (sym e) ∙ t in nope (cc)
-seen_open (Some v) None k e t = let q : None ≡ Some k = ap (λ (x : Seen). x.tally) (sym e) ∙ t in nope (cc)
+seen_open None o k e t = nope (cc)
+seen_open (Some v) None k e t = nope (cc)
 seen_open (Some v) (Some vs) k e t =
-    let q : Some (0 + length vs) ≡ Some k = ap (λ (x : Seen). x.tally) (sym e) ∙ t in
-    let z : 0 + length vs ≡ k = cc in
-    record { v = v; vs = vs; version = refl; all = refl; many = omega arith; handle = ap (λ (x : Seen). x.handle) e }
+    let z : k ≡ record { tally = 0 + length vs; handle = with_all (handle_of v false []) vs } = cc in
+    let n = ap (λ (x : Seen). x.tally) z in
+    record { v = v; vs = vs; version = refl; all = refl; many = omega arith; handle = ap (λ (x : Seen). x.handle) z }
 
-bad-answer : (log : List ℕ) (used words : ℕ) (nv : Option ℕ) (o : Option (List ℕ)) {s : Seen} → s ≡ seen_by false nv o → s.tally ≡ None → refused_by BadStore ≡ begin_by log used words nv o
+bad-answer : (log : List ℕ) (used words : ℕ) (nv : Option ℕ) (o : Option (List ℕ)) {s : Option Seen} → s ≡ seen_by false nv o → s ≡ None → refused_by BadStore ≡ begin_by log used words nv o
 unfolding seen_from
 bad-answer log used words None o e t = refl
 bad-answer log used words (Some v) None e t = refl
-bad-answer log used words (Some v) (Some vs) e t = let q : Some (0 + length vs) ≡ None = ap (λ (x : Seen). x.tally) (sym e) ∙ t in nope (cc)
+bad-answer log used words (Some v) (Some vs) e t = nope (cc)
 
 with_version_lem : (h : Handle) (x : ℕ) → (with_version h x).version ≡ h.version
 unfolding with_version
@@ -196,38 +196,38 @@ module _ (log : List ℕ) (used : Used) (t : List ℕ) {a : Result Mark Refusal}
             map = λ g z. rw q (grows g (plan-sets (length vs) v (set_bytes vs)) w.leaves refl (w.answer g)).map;
           }
 
-    module _ {s : Seen} (seen : s ≡ seen_by false (next_in (rows log t m)) (versions_in (keys_in (active_rows (rows log t m))))) where
-      pub begin_bad : {r : Begun} → s.tally ≡ None → r ≡ refused_by BadStore → Begins log used.len t r log t
+    module _ {s : Option Seen} (seen : s ≡ seen_by false (next_in (rows log t m)) (versions_in (keys_in (active_rows (rows log t m))))) where
+      pub begin_bad : {r : Begun} → s ≡ None → r ≡ refused_by BadStore → Begins log used.len t r log t
       begin_bad y q = refuses BadStore refl q (λ g. bad-answer log used.len (length t) next_seen open_seen seen y)
 
-      module _ (k : ℕ) (y : s.tally ≡ Some k) where
-        opens : SeenOpen next_seen open_seen k s.handle
+      module _ (k : Seen) (y : s ≡ Some k) where
+        opens : SeenOpen next_seen open_seen k.tally k.handle
         opens = seen_open next_seen open_seen k seen y
 
-        pub begin_room : k < max_open → length (set_bytes (set_of s.handle)) ≤ 8 * max_open
+        pub begin_room : k.tally < max_open → length (set_bytes (set_of k.handle)) ≤ 8 * max_open
         begin_room h = seen_few opens h
 
-        pub begin_spent : {r : Begun} → s.handle.version ≡ 2 ^ 64 - 1 → r ≡ refused_by VersionsSpent → Begins log used.len t r log t
+        pub begin_spent : {r : Begun} → k.handle.version ≡ 2 ^ 64 - 1 → r ≡ refused_by VersionsSpent → Begins log used.len t r log t
         begin_spent h q =
             refuses VersionsSpent refl q (λ g. rw (opens.version, opens.all, eq-eqb opens.v (2 ^ 64 - 1) (sym (seen_version opens) ∙ h)))
 
-        module _ (own : s.handle.version ≡ 2 ^ 64 - 1 → ⊥) where
+        module _ (own : k.handle.version ≡ 2 ^ 64 - 1 → ⊥) where
           unspent : eqb opens.v (2 ^ 64 - 1) ≡ false
           unspent = ne_eqb opens.v (2 ^ 64 - 1) (λ z. own (seen_version opens ∙ z))
 
-          pub begin_many : {r : Begun} → max_open ≤ k → r ≡ refused_by TooManyOpen → Begins log used.len t r log t
+          pub begin_many : {r : Begun} → max_open ≤ k.tally → r ≡ refused_by TooManyOpen → Begins log used.len t r log t
           begin_many h q =
               refuses TooManyOpen refl q (λ g. rw (opens.version, opens.all, unspent, le-leb max_open (length opens.vs) (omega (arith, opens.many))))
 
-          pub begin_started : k < max_open → {r : Begun} {log' t' : List ℕ} → r ≡ begun_by r.answer s.handle
-              → Appends log t m (plan_by k s.handle.version (set_bytes (set_of s.handle))) r.answer log' t' → Begins log used.len t r log' t'
-          begin_started few {r} {log'} {t'} er w =
+          pub begin_started : k.tally < max_open → {r : Result Used Refusal} {log' t' : List ℕ}
+              → Appends log t m (plan_by k.tally k.handle.version (set_bytes (set_of k.handle))) r log' t' → Begins log used.len t (begun_by r k.handle) log' t'
+          begin_started few {r} {log'} {t'} w =
               let x = opens in
               let eh = seen_made x few in
-              let ep : plan_by k s.handle.version (set_bytes (set_of s.handle)) ≡ begin_plan x.v x.vs = λ j. plan_by (x.many j) (seen_version x j) (set_bytes (seen_set x few j)) in
+              let ep : plan_by k.tally k.handle.version (set_bytes (set_of k.handle)) ≡ begin_plan x.v x.vs = λ j. plan_by (x.many j) (seen_version x j) (set_bytes (seen_set x few j)) in
               let judged : begin_by log used.len (length t) next_seen open_seen ≡ begun_by (append_answer log used.len (length t) (begin_plan x.v x.vs)) (handle_of x.v false x.vs) =
               rw (x.version, x.all, unspent, lt-leb max_open (length x.vs) (omega (arith, x.many))) in
-              let z : Appends log t (mark_of used t) (begin_plan x.v x.vs) r.answer log' t' =
-              subst (λ (k : Mark). Appends log t k (begin_plan x.v x.vs) r.answer log' t') (in_fits log used t a ea m e).1
-              (subst (λ (es : List Entry). Appends log t m es r.answer log' t') ep w) in
-              subst (λ (y : Begun). Begins log used.len t y log' t') (sym (er ∙ ap (begun_by r.answer) eh)) (by_answer x.v x.vs (omega (arith, x.many)) judged r.answer z)
+              let z : Appends log t (mark_of used t) (begin_plan x.v x.vs) r log' t' =
+              subst (λ (k : Mark). Appends log t k (begin_plan x.v x.vs) r log' t') (in_fits log used t a ea m e).1
+              (subst (λ (es : List Entry). Appends log t m es r log' t') ep w) in
+              subst (λ (y : Handle). Begins log used.len t (begun_by r y) log' t') (sym eh) (by_answer x.v x.vs (omega (arith, x.many)) judged r z)

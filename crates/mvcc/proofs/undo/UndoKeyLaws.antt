@@ -16,6 +16,7 @@ use Rattle.keycode.specs.key.Keys.{encode, txn_write, version, decode_why, forge
 use Rattle.keycode.specs.encode.Promises.{encode_answer}
 use Rattle.keycode.specs.declared.refusal.Refusal.{Refusal}
 use Rattle.keycode.specs.declared.key.Key.{Key}
+use Rattle.keycode.specs.declared.parts.Part.{Part}
 use Rattle.keycode.specs.declared.key.Key.TheVariants.{NextVersion, TxnActive, TxnActiveSnapshot, TxnWrite, Version, Unversioned}
 use Rattle.keycode.proofs.Basics.{nope}
 use Rattle.keycode.proofs.NumberLaws.{Bytes, length-be}
@@ -42,6 +43,15 @@ module _ (b : List ℕ) {d : Result Key Refusal} (says : d ≡ forget (decode_wh
   pub write_key : (k j : Key) → d ≡ Ok k → k ≡ j → is_user (user_of b j) ≡ is_user (user_in b)
   unfolding user_in
   write_key k j e f = rw (← says, e, f)
+
+  pub write_other : (k : Key) → d ≡ Ok k → ((v : ℕ) (p : Part) → k ≡ TxnWrite v p → ⊥) → false ≡ is_user (user_in b)
+  unfolding user_in
+  write_other NextVersion e n = rw (← says, e)
+  write_other (TxnActive v) e n = rw (← says, e)
+  write_other (TxnActiveSnapshot v) e n = rw (← says, e)
+  write_other (TxnWrite v p) e n = absurd (n v p refl)
+  write_other (Version p v) e n = rw (← says, e)
+  write_other (Unversioned p) e n = rw (← says, e)
 
 -- ---- what such a key says
 

@@ -5,15 +5,16 @@ use mathlib.Core.Bool.{Bool, true, false}
 use mathlib.Core.List.{List, [], ◌∷◌, ◌++◌}
 use native.Mathlib.Omega.{arith}
 use lib.ListN.{length, take}
-use Rattle.std.specs.Prelude.{Result, Ok, Err, Option, ℕ, Some, None}
+use Rattle.std.specs.Prelude.{Result, Ok, Option, ℕ, Some, None}
 use Rattle.keycode.specs.Limits.{max_key}
 use Rattle.keycode.specs.declared.parts.Part.{Part}
 use Rattle.keycode.specs.declared.refusal.Refusal.{Refusal}
 use Rattle.keycode.specs.key.Keys.{encode, version, decode_why, forget}
 use Rattle.keycode.specs.declared.key.Key.{Key}
+use Rattle.keycode.specs.declared.key.Key.TheVariants.{NextVersion, TxnActive, TxnActiveSnapshot, TxnWrite, Version, Unversioned}
 use Rattle.bitcask.specs.declared.answers.Bound.TheVariants.{Included}
-use Rattle.mvcc.specs.declared.payload.ValueRead.{ValueRead}
-use Rattle.mvcc.specs.declared.payload.ValueRead.TheVariants as Payload
+use Rattle.mvcc.specs.declared.payload.Stored.{Stored}
+use Rattle.mvcc.specs.declared.payload.Stored.TheVariants as Payload
 use Rattle.mvcc.specs.payload.Payloads.{value_in}
 use Rattle.mvcc.proofs.payload.PayloadLaws.{skip_within}
 use Rattle.mvcc.specs.declared.handle.Handle.{Handle}
@@ -30,7 +31,6 @@ use Rattle.bitcask.specs.engine.Walks.{near_rank, before_in, down_from}
 use Rattle.bitcask.proofs.engine.WalkLaws.{walk_over, walk_on}
 use Rattle.bitcask.proofs.engine.RangeLaws.{down_agrees}
 use Rattle.mvcc.specs.declared.version.Label.{Label}
-use Rattle.mvcc.specs.declared.version.Record.TheVariants.{Junk, Good}
 use Rattle.mvcc.specs.declared.version.Seen.{Seen}
 use Rattle.mvcc.specs.declared.version.Seen.TheVariants.{Hidden, Gone, Bad, Value}
 use Rattle.mvcc.specs.version.Seen.{label_key, label_by, version_in, version_of, behind_part, string_part, says_by, row_says, seen_as, seen_by, seen_row, record_by, record_row}
@@ -38,34 +38,39 @@ use Rattle.mvcc.specs.version.Seen.{or_else, last_rows, version_test, version_ro
 
 -- ---- a key
 
-pub label_by_lem : {got d : Result Key Refusal} {k j : Key} → got ≡ d → got ≡ Ok k → k ≡ j → label_key j ≡ label_by d
-label_by_lem p q r = ap label_key (sym r) ∙ ap label_by (sym q ∙ p)
+pub label_own : {got d : Result Key Refusal} (k : Key) (p : Part) (v : ℕ) → got ≡ d → got ≡ Ok k → k ≡ Version p v → Some (record { string = p; version = v }) ≡ label_by d
+label_own k p v e f g = ap label_key (sym g) ∙ ap label_by (sym f ∙ e)
 
-pub label_none : {got d : Result Key Refusal} (r : Refusal) → got ≡ d → got ≡ Err r → Label.None ≡ label_by d
-label_none r p q = ap label_by (sym q ∙ p)
+pub label_other : {got d : Result Key Refusal} (k : Key) → got ≡ d → got ≡ Ok k → ((p : Part) (v : ℕ) → k ≡ Version p v → ⊥) → None ≡ label_by d
+label_other NextVersion e f n = ap label_by (sym f ∙ e)
+label_other (TxnActive v) e f n = ap label_by (sym f ∙ e)
+label_other (TxnActiveSnapshot v) e f n = ap label_by (sym f ∙ e)
+label_other (TxnWrite v p) e f n = ap label_by (sym f ∙ e)
+label_other (Version p v) e f n = absurd (n p v refl)
+label_other (Unversioned p) e f n = ap label_by (sym f ∙ e)
 
-pub version_by : (d : Result Key Refusal) {got j : Label} → got ≡ label_by d → got ≡ j → version_in j ≡ version_of d
+pub version_by : (d : Result Key Refusal) {got j : Option Label} → got ≡ label_by d → got ≡ j → version_in j ≡ version_of d
 version_by d p q = ap version_in (sym q ∙ p)
 
 -- ---- a payload
 
-module _ (x : Row) {b : List ℕ} {got : ValueRead} (eb : b ≡ x.value) (eg : got ≡ value_in b) where
+module _ (x : Row) {b : List ℕ} {got : Option Stored} (eb : b ≡ x.value) (eg : got ≡ value_in b) where
   says-got : row_says x ≡ says_by (value_place x) got
   unfolding row_says
   says-got = rw (← eb, eg)
 
-  pub says-room : (k : ℕ) (p : Part) → got ≡ Payload.Value k → (p ≡ value_place x) × (p.at + p.len < 2 ^ 63) → (k ≤ p.len) × (p.at + p.len < 2 ^ 63)
+  pub says-room : (k : ℕ) (p : Part) → got ≡ Some (Payload.Value k) → (p ≡ value_place x) × (p.at + p.len < 2 ^ 63) → (k ≤ p.len) × (p.at + p.len < 2 ^ 63)
   says-room k p e w =
       let l : k ≤ length b = skip_within b k (sym eg ∙ e) in
       (omega (arith, ap length eb, ap (λ (q : Part). q.len) w.0), w.1)
 
-  pub says-value : (k : ℕ) (p q : Part) → got ≡ Payload.Value k → p ≡ value_place x → q ≡ behind_part p k → Value q ≡ row_says x
+  pub says-value : (k : ℕ) (p q : Part) → got ≡ Some (Payload.Value k) → p ≡ value_place x → q ≡ behind_part p k → Value q ≡ row_says x
   says-value k p q e ep eq = sym (says-got ∙ rw (e, eq, ep))
 
-  pub says-gone : got ≡ Payload.Gone → Gone ≡ row_says x
+  pub says-gone : got ≡ Some Payload.Gone → Gone ≡ row_says x
   says-gone e = sym (says-got ∙ rw e)
 
-  pub says-bad : got ≡ Payload.Bad → Bad ≡ row_says x
+  pub says-bad : got ≡ None → Bad ≡ row_says x
   says-bad e = sym (says-got ∙ rw e)
 
 -- ---- a record
@@ -89,16 +94,17 @@ module _ (h : Handle) (x : Row) {k : List ℕ} (ek : k ≡ x.key) where
     pub seen_version : (v : ℕ) → got ≡ Some v → {r : Seen} → r ≡ seen_as h (row_says x) v → r ≡ seen_row h x
     seen_version v e er = er ∙ sym (seen_got ∙ rw e)
 
-  module _ {got : Label} (eg : got ≡ label_by (forget (decode_why max_key k))) where
+  module _ {got : Option Label} (eg : got ≡ label_by (forget (decode_why max_key k))) where
     record_got : record_row h x ≡ record_by h x got
     unfolding record_row
     record_got = rw (← ek, eg)
 
-    pub record_junk : got ≡ Label.None → Junk ≡ record_row h x
+    pub record_junk : got ≡ None → None ≡ record_row h x
     record_junk e = sym (record_got ∙ rw e)
 
-    pub record_good : (p : Part) (v : ℕ) → got ≡ Label.Of p v → {a q : Part} {r : Seen} → a ≡ key_place x → q ≡ string_part a p.len → r ≡ seen_as h (row_says x) v → Good q r ≡ record_row h x
-    record_good p v e ea eq er = sym (record_got ∙ rw (e, er, eq, ea))
+    pub record_good : (l : Label) → got ≡ Some l → {a q : Part} {r : Seen} → a ≡ key_place x → q ≡ string_part a l.string.len → r ≡ seen_as h (row_says x) l.version
+        → Some (record { key = q; seen = r }) ≡ record_row h x
+    record_good l e ea eq er = sym (record_got ∙ rw (e, er, eq, ea))
 
 -- ---- the walk down
 
@@ -145,14 +151,14 @@ module _ {h : Handle} {low : List ℕ} {rs : List Row} {from n : ℕ} (w : Seeki
       pub seek_hidden : s ≡ Hidden → Seeking h low rs from (rank p rs)
       seek_hidden q = let l = seek_stands in record { within = omega arith; same = seek_at ∙ rw q }
 
-      pub seek_gone : s ≡ Gone → Gone ≡ last_rows h (down_from Included low rs from)
-      seek_gone q = sym (seek_at ∙ rw q)
-
-      pub seek_bad : s ≡ Bad → Bad ≡ last_rows h (down_from Included low rs from)
-      seek_bad q = sym (seek_at ∙ rw q)
-
-      pub seek_value : (v : Part) → s ≡ Value v → Value v ≡ last_rows h (down_from Included low rs from)
-      seek_value v q = sym (seek_at ∙ rw q)
+      pub seek_decided : (s ≡ Hidden → ⊥) → s ≡ last_rows h (down_from Included low rs from)
+      seek_decided n = sym (seek_at ∙ stays s n)
+        where
+          stays : (t : Seen) → (t ≡ Hidden → ⊥) → or_else t (last_rows h (down_from Included low rs (rank p rs))) ≡ t
+          stays Hidden k = absurd (k refl)
+          stays Gone k = refl
+          stays Bad k = refl
+          stays (Value v) k = refl
 
 -- ---- the versions of a key
 

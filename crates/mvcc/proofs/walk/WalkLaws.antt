@@ -9,6 +9,8 @@ use Rattle.std.specs.Prelude.{Result, Ok, Err, Option, Some, None}
 use Rattle.bitcask.specs.declared.answers.KeyValue.{KeyValue}
 use Rattle.keycode.specs.declared.refusal.Refusal.{Refusal}
 use Rattle.std.specs.declared.cmp.Ordering.{Ordering}
+use Rattle.std.specs.declared.cmp.Ordering.TheVariants.{Less, Equal, Greater}
+use Rattle.std.specs.Ordering.{is_eq}
 use Rattle.keycode.specs.Order.{compare_bytes}
 use Rattle.keycode.specs.declared.parts.Part.{Part}
 use Rattle.keycode.specs.declared.refusal.Refusal.TheVariants.{BadStore}
@@ -20,26 +22,49 @@ use Rattle.bitcask.specs.engine.Spots.{rank, row_at}
 use Rattle.bitcask.specs.engine.Walks.{near_rank, from_in}
 use Rattle.mvcc.specs.declared.handle.Handle.{Handle}
 use Rattle.mvcc.specs.declared.version.Seen.{Seen}
+use Rattle.mvcc.specs.declared.version.Seen.TheVariants.{Hidden, Gone, Bad, Value}
 use Rattle.mvcc.specs.declared.version.Record.{Record}
-use Rattle.mvcc.specs.declared.version.Record.TheVariants.{Good}
 use Rattle.mvcc.specs.version.Seen.{record_row}
 use Rattle.mvcc.specs.declared.walk.Walk.{Walk}
 use Rattle.mvcc.specs.declared.walk.Walk.TheVariants.{Start, Within, Broken, Over}
-use Rattle.mvcc.specs.walk.Walks.{is_equal, part_of, same_string, later_by, closed_by, within_by, broken_by, next_walk, ended_by, is_over, up_from, walk_rows, step_rows}
+use Rattle.mvcc.specs.walk.Walks.{is_equal, part_of, same_string, in_group, later_by, closed_by, spoilt_by, within_by, broken_by, next_walk, ended_by, is_over, up_from, walk_rows, step_rows}
 use Rattle.mvcc.proofs.walk.UpLaws.{up_over, up_on}
 
 -- ---- one record more
 
-pub same_by : (log : List ℕ) (a b : Part) {x y : List ℕ} {o k : Ordering} → x ≡ part_of log a → y ≡ part_of log b → o ≡ compare_bytes x y → o ≡ k → is_equal k ≡ same_string log a b
-unfolding same_string
-same_by log a b ex ey eo e = ap is_equal (sym e ∙ eo) ∙ rw (ex, ey)
+equal_told : (o : Ordering) → is_eq o ≡ is_equal o
+equal_told Less = refl
+equal_told Equal = refl
+equal_told Greater = refl
 
-module _ (log : List ℕ) (key : Part) {x : Record} (k : Part) (new : Seen) (e : x ≡ Good k new) {b : Bool} (eb : b ≡ same_string log key k) where
+pub same_by : (log : List ℕ) (a b : Part) {x y : List ℕ} {o : Ordering} → x ≡ part_of log a → y ≡ part_of log b → o ≡ compare_bytes x y → is_eq o ≡ same_string log a b
+unfolding same_string
+same_by log a b {o = o} ex ey eo = equal_told o ∙ ap is_equal eo ∙ rw (ex, ey)
+
+pub later_decided : (key k : Part) (old new : Seen) → (new ≡ Hidden → ⊥) → in_group k new ≡ later_by key old k new
+later_decided key k old Hidden n = absurd (n refl)
+later_decided key k old Gone n = refl
+later_decided key k old Bad n = refl
+later_decided key k old (Value v) n = refl
+
+pub spoilt_none : (key : Part) (x : Seen) → ((v : Part) → x ≡ Value v → ⊥) → Over (Err BadStore) ≡ spoilt_by key x
+spoilt_none key Hidden n = refl
+spoilt_none key Gone n = refl
+spoilt_none key Bad n = refl
+spoilt_none key (Value v) n = absurd (n v refl)
+
+pub over_not : (w : Walk) → ((a : Result KeyValue Refusal) → w ≡ Over a → ⊥) → false ≡ is_over w
+over_not Start n = refl
+over_not (Within g) n = refl
+over_not (Broken k v) n = refl
+over_not (Over a) n = absurd (n a refl)
+
+module _ (log : List ℕ) (key : Part) {x : Option Record} (n : Record) (e : x ≡ Some n) {b : Bool} (eb : b ≡ same_string log key n.key) where
   module _ (seen : Seen) where
-    pub within_same : b ≡ true → {w : Walk} → w ≡ later_by key seen k new → w ≡ within_by log key seen x
+    pub within_same : b ≡ true → {w : Walk} → w ≡ later_by key seen n.key n.seen → w ≡ within_by log key seen x
     within_same t ew = rw (e, ← eb, t) ew
 
-    pub within-other : b ≡ false → {w : Walk} → w ≡ closed_by key k new seen → w ≡ within_by log key seen x
+    pub within-other : b ≡ false → {w : Walk} → w ≡ closed_by key n.key n.seen seen → w ≡ within_by log key seen x
     within-other t ew = rw (e, ← eb, t) ew
 
   module _ (value : Part) where
@@ -59,7 +84,7 @@ over-stays : (h : Handle) (log : List ℕ) (w : Walk) (rs : List Row) → is_ove
 unfolding walk_rows
 over-stays h log w [] e = refl
 over-stays h log Start (r ∷ rs) e = nope (cc)
-over-stays h log (Within k x) (r ∷ rs) e = nope (cc)
+over-stays h log (Within g) (r ∷ rs) e = nope (cc)
 over-stays h log (Broken k x) (r ∷ rs) e = nope (cc)
 over-stays h log (Over a) (r ∷ rs) e = over-stays h log (Over a) rs refl
 
@@ -76,7 +101,7 @@ module _ {h : Handle} {log : List ℕ} {upper : Bound} {high : List ℕ} {rs : L
     pub walk_less : (m : ℕ) → m ≡ rank p rs + 1 → length rs - m < length rs - n
     walk_less m q = let l = (up_on upper high rs n r says p e).1 in omega (arith, q, (up_on upper high rs n r says p e).0)
 
-    module _ {x : Record} {w' : Walk} (ex : x ≡ record_row h (row_at p rs)) (ew : w' ≡ next_walk log w x) where
+    module _ {x : Option Record} {w' : Walk} (ex : x ≡ record_row h (row_at p rs)) (ew : w' ≡ next_walk log w x) where
       step_on_lem : walk_rows h log Start (up_from upper high rs from) ≡ walk_rows h log w' (up_from upper high rs (suc n))
       unfolding walk_rows
       step_on_lem =

@@ -8,6 +8,7 @@ use Rattle.bitcask.specs.recovery.Agree.{Agrees}
 use Rattle.bitcask.specs.recovery.Promises.{changed_number}
 use Rattle.bitcask.specs.change.Append.{size_all, append_answer}
 use Rattle.bitcask.specs.declared.engine.mark.Mark.{Mark}
+use Rattle.bitcask.specs.declared.engine.store.Store.{Store}
 use Rattle.mvcc.specs.append.Lays.{Leaves}
 
 pub record Appends (log t : List ℕ) (m : Mark) (es : List Entry) (r : Result Used Refusal) (log' t' : List ℕ) : Type 0 where
@@ -17,3 +18,7 @@ pub record Appends (log t : List ℕ) (m : Mark) (es : List Entry) (r : Result U
   pub full : eqb (changed_number r) 7 ≡ not (leb (m.used.len + size_all es) (length log))
   -- agreed
   pub answer : Agrees log m.used.len t → r ≡ append_answer log m.used.len (length t) es
+
+-- the same of a store that is written to
+abbrev pub AppendsTo : Store → List Entry → Result Used Refusal → Store → Type 0
+AppendsTo s es r s' = Appends s.log.now s.table.now s.mark es r s'.log.now s'.table.now

@@ -1,17 +1,15 @@
 -- What the store keeps under its keys: versions, sets of versions, stored values. Document 01, 'Transactions', fixes the first edition;
 -- another may read several payloads alike, so that nothing but 'read after write' may be used of an edition. Assumes nothing.
-use Rattle.std.specs.Prelude.{ℕ, zero, suc, ◌/◌, ◌%◌, ◌^◌, ◌<◌, ◌≡◌, Bool, List, [], ◌∷◌, ◌++◌, length, take, drop, get_or, eqb, leb, Some, None, Option}
+use Rattle.std.specs.Prelude.{ℕ, zero, suc, ◌/◌, ◌%◌, ◌^◌, ◌<◌, ◌≡◌, Bool, List, [], ◌∷◌, ◌++◌, length, take, drop, get_or, eqb, leb, Some, None, Option, Result, Ok, Err}
 use Rattle.keycode.specs.Tests.{pick}
 use Rattle.keycode.specs.Limits.{max_open}
 use Rattle.keycode.specs.Number.{be, num}
 use Rattle.keycode.specs.declared.refusal.Refusal.{Refusal}
 use Rattle.keycode.specs.declared.refusal.Refusal.TheVariants.{TooManyOpen, BadStore}
 use Rattle.mvcc.specs.declared.handle.Handle.{Handle}
-use Rattle.mvcc.specs.declared.payload.ValueRead.{ValueRead}
-use Rattle.mvcc.specs.declared.payload.ValueRead.TheVariants.{Value, Gone, Bad}
-use Rattle.mvcc.specs.declared.payload.SetAnswer.TheVariants.{Fine, Refused}
-use Rattle.mvcc.specs.declared.payload.SetRead.{SetRead}
-use Rattle.mvcc.specs.handle.Handles.{rising, handle_of, blank_handle}
+use Rattle.mvcc.specs.declared.payload.Stored.{Stored}
+use Rattle.mvcc.specs.declared.payload.Stored.TheVariants.{Value, Gone}
+use Rattle.mvcc.specs.handle.Handles.{rising, handle_of}
 
 -- ---- any edition
 
@@ -22,13 +20,13 @@ pub record Edition : Type 0 where
   pub write_set : List ℕ → List ℕ
   pub read_set : List ℕ → Option (List ℕ)
   pub write_value : Option (List ℕ) → List ℕ
-  pub read_value : List ℕ → ValueRead
+  pub read_value : List ℕ → Option Stored
 
 -- what a reader found in a payload: a value's bytes, or none for a tombstone; or that the payload is neither
-abbrev pub value_at : List ℕ → ValueRead → Option (Option (List ℕ))
-value_at b (Value skip) = Some (Some (drop skip b))
-value_at b Gone = Some None
-value_at b Bad = None
+abbrev pub value_at : List ℕ → Option Stored → Option (Option (List ℕ))
+value_at b (Some (Value skip)) = Some (Some (drop skip b))
+value_at b (Some Gone) = Some None
+value_at b None = None
 
 -- every element is a version, as a slice's rule gives it
 abbrev pub Versions : List ℕ → Type 0
@@ -68,12 +66,12 @@ unfoldable pub value_bytes : Option (List ℕ) → List ℕ
 value_bytes (Some v) = 1 ∷ v
 value_bytes None = 0 ∷ []
 
-unfoldable pub value_in : List ℕ → ValueRead
-value_in [] = Bad
-value_in (zero ∷ []) = Gone
-value_in (zero ∷ y ∷ r) = Bad
-value_in (suc zero ∷ r) = Value 1
-value_in (suc (suc t) ∷ r) = Bad
+unfoldable pub value_in : List ℕ → Option Stored
+value_in [] = None
+value_in (zero ∷ []) = Some Gone
+value_in (zero ∷ y ∷ r) = None
+value_in (suc zero ∷ r) = Some (Value 1)
+value_in (suc (suc t) ∷ r) = None
 
 abbrev pub first : Edition
 first = record { write_version = version_bytes; read_version = version_in; write_set = set_bytes; read_set = set_in; write_value = value_bytes; read_value = value_in }
@@ -84,13 +82,10 @@ first = record { write_version = version_bytes; read_version = version_in; write
 abbrev pub few_enough : List ℕ → Bool
 few_enough vs = leb (length vs) max_open
 
-abbrev pub refused_set : Refusal → SetRead
-refused_set r = record { answer = Refused r; handle = blank_handle }
-
 -- 12 for a payload that holds no set, 9 for a set over the limit, 12 for one that does not rise, in this order
-unfoldable pub set_for : Handle → Option (List ℕ) → SetRead
-set_for h None = refused_set BadStore
+unfoldable pub set_for : Handle → Option (List ℕ) → Result Handle Refusal
+set_for h None = Err BadStore
 set_for h (Some vs) =
     pick (few_enough vs)
-    (pick (rising vs) (record { answer = Fine; handle = handle_of h.version h.read_only vs }) (refused_set BadStore))
-    (refused_set TooManyOpen)
+    (pick (rising vs) (Ok (handle_of h.version h.read_only vs)) (Err BadStore))
+    (Err TooManyOpen)

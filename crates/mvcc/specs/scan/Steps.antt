@@ -29,9 +29,9 @@ pub record Stamp : Type 0 where
   pub user : List ℕ
   pub version : ℕ
 
-abbrev pub stamp_by : List ℕ → Label → Option Stamp
-stamp_by b Label.None = None
-stamp_by b (Label.Of p v) = Some (record { user = unescaped (take p.len (drop p.at b)); version = v })
+abbrev pub stamp_by : List ℕ → Option Label → Option Stamp
+stamp_by b None = None
+stamp_by b (Some l) = Some (record { user = unescaped (take l.string.len (drop l.string.at b)); version = l.version })
 
 unfoldable pub stamp_of : List ℕ → Option Stamp
 stamp_of b = stamp_by b (label_by (forget (decode_why max_key b)))

@@ -11,7 +11,7 @@ use Rattle.bitcask.specs.engine.Spots.{look_row, row_value}
 use Rattle.bitcask.specs.engine.Ranges.{range_of}
 use Rattle.bitcask.specs.engine.Prefixes.{begins, end_bound, end_bytes}
 use Rattle.mvcc.specs.declared.handle.Handle.{Handle}
-use Rattle.mvcc.specs.handle.Handles.{handle_of, blank_handle, with_all}
+use Rattle.mvcc.specs.handle.Handles.{handle_of, with_all}
 use Rattle.mvcc.specs.payload.Payloads.{version_in}
 use Rattle.mvcc.specs.request.Ranges.{active_prefix}
 use Rattle.mvcc.specs.declared.snapshot.Seen.{Seen}
@@ -72,14 +72,11 @@ active_at m = versions_in (active_keys m)
 
 -- ---- both, as the code has them
 
-abbrev pub bad_seen : Seen
-bad_seen = record { tally = None; handle = blank_handle }
+-- behind n versions that the handle has already; none where the store is bad
+unfoldable pub seen_from : ℕ → Handle → Option (List ℕ) → Option Seen
+seen_from n h None = None
+seen_from n h (Some vs) = Some (record { tally = n + length vs; handle = with_all h vs })
 
--- behind n versions that the handle has already
-unfoldable pub seen_from : ℕ → Handle → Option (List ℕ) → Seen
-seen_from n h None = bad_seen
-seen_from n h (Some vs) = record { tally = Some (n + length vs); handle = with_all h vs }
-
-abbrev pub seen_by : Bool → Option ℕ → Option (List ℕ) → Seen
-seen_by ro None o = bad_seen
+abbrev pub seen_by : Bool → Option ℕ → Option (List ℕ) → Option Seen
+seen_by ro None o = None
 seen_by ro (Some v) o = seen_from 0 (handle_of v ro []) o

@@ -16,35 +16,34 @@ use Rattle.bitcask.specs.engine.Spots.{upto_rank}
 use Rattle.bitcask.specs.engine.Ranges.{inside}
 use Rattle.bitcask.specs.engine.Walks.{down_from}
 use Rattle.mvcc.specs.declared.handle.Handle.{Handle}
-use Rattle.mvcc.specs.declared.payload.ValueRead.{ValueRead}
-use Rattle.mvcc.specs.declared.payload.ValueRead.TheVariants as Payload
+use Rattle.mvcc.specs.declared.payload.Stored.{Stored}
+use Rattle.mvcc.specs.declared.payload.Stored.TheVariants as Payload
 use Rattle.mvcc.specs.handle.Handles.{sees}
 use Rattle.mvcc.specs.payload.Payloads.{value_in, value_at}
 use Rattle.mvcc.specs.declared.version.Label.{Label}
 use Rattle.mvcc.specs.declared.version.Record.{Record}
-use Rattle.mvcc.specs.declared.version.Record.TheVariants.{Junk, Good}
 use Rattle.mvcc.specs.declared.version.Seen.{Seen}
 use Rattle.mvcc.specs.declared.version.Seen.TheVariants.{Hidden, Gone, Bad, Value}
 
 -- ---- one record
 
 -- a key's string and version, where it is a Version key
-abbrev pub label_key : Key → Label
-label_key NextVersion = Label.None
-label_key (TxnActive v) = Label.None
-label_key (TxnActiveSnapshot v) = Label.None
-label_key (TxnWrite v p) = Label.None
-label_key (Version p v) = Label.Of p v
-label_key (Unversioned p) = Label.None
+abbrev pub label_key : Key → Option Label
+label_key NextVersion = None
+label_key (TxnActive v) = None
+label_key (TxnActiveSnapshot v) = None
+label_key (TxnWrite v p) = None
+label_key (Version p v) = Some (record { string = p; version = v })
+label_key (Unversioned p) = None
 
-abbrev pub label_by : Result Key Refusal → Label
+abbrev pub label_by : Result Key Refusal → Option Label
 label_by (Ok k) = label_key k
-label_by (Err r) = Label.None
+label_by (Err r) = None
 
 -- the version alone
-abbrev pub version_in : Label → Option ℕ
-version_in Label.None = None
-version_in (Label.Of p v) = Some v
+abbrev pub version_in : Option Label → Option ℕ
+version_in None = None
+version_in (Some l) = Some l.version
 
 abbrev pub version_of : Result Key Refusal → Option ℕ
 version_of d = version_in (label_by d)
@@ -57,10 +56,10 @@ behind_part p skip = record { at = p.at + skip; len = p.len - skip }
 abbrev pub string_part : Part → ℕ → Part
 string_part p n = record { at = p.at + 1; len = n }
 
-abbrev pub says_by : Part → ValueRead → Seen
-says_by p (Payload.Value skip) = Value (behind_part p skip)
-says_by p Payload.Gone = Gone
-says_by p Payload.Bad = Bad
+abbrev pub says_by : Part → Option Stored → Seen
+says_by p (Some (Payload.Value skip)) = Value (behind_part p skip)
+says_by p (Some Payload.Gone) = Gone
+says_by p None = Bad
 
 unfoldable pub row_says : Row → Seen
 row_says r = says_by (value_place r) (value_in r.value)
@@ -78,11 +77,11 @@ unfoldable pub seen_row : Handle → Row → Seen
 seen_row h r = seen_by h (row_says r) (version_of (forget (decode_why max_key r.key)))
 
 -- the same with the place of the user key
-abbrev pub record_by : Handle → Row → Label → Record
-record_by h r Label.None = Junk
-record_by h r (Label.Of p v) = Good (string_part (key_place r) p.len) (seen_as h (row_says r) v)
+abbrev pub record_by : Handle → Row → Option Label → Option Record
+record_by h r None = None
+record_by h r (Some l) = Some (record { key = string_part (key_place r) l.string.len; seen = seen_as h (row_says r) l.version })
 
-unfoldable pub record_row : Handle → Row → Record
+unfoldable pub record_row : Handle → Row → Option Record
 record_row h r = record_by h r (label_by (forget (decode_why max_key r.key)))
 
 -- ---- the last that decides

@@ -4,7 +4,7 @@ use Rattle.bitcask.specs.declared.answers.KeyValue.{KeyValue}
 use Rattle.keycode.specs.declared.refusal.Refusal.{Refusal}
 use Rattle.std.specs.declared.cmp.Ordering.{Ordering}
 use Rattle.std.specs.declared.cmp.Ordering.TheVariants.{Less, Equal, Greater}
-use Rattle.std.specs.Prelude.{ℕ, Bool, true, false, List, [], ◌∷◌, take, drop, Result, Ok, Err}
+use Rattle.std.specs.Prelude.{ℕ, Bool, true, false, List, [], ◌∷◌, take, drop, Result, Ok, Err, Option, None, Some}
 use Rattle.keycode.specs.Tests.{pick}
 use Rattle.keycode.specs.Order.{compare_bytes}
 use Rattle.keycode.specs.declared.parts.Part.{Part}
@@ -16,7 +16,6 @@ use Rattle.mvcc.specs.declared.handle.Handle.{Handle}
 use Rattle.mvcc.specs.declared.version.Seen.{Seen}
 use Rattle.mvcc.specs.declared.version.Seen.TheVariants.{Hidden, Gone, Bad, Value}
 use Rattle.mvcc.specs.declared.version.Record.{Record}
-use Rattle.mvcc.specs.declared.version.Record.TheVariants.{Junk, Good}
 use Rattle.mvcc.specs.version.Seen.{record_row}
 use Rattle.mvcc.specs.declared.walk.Walk.{Walk}
 use Rattle.mvcc.specs.declared.walk.Walk.TheVariants.{Start, Within, Broken, Over}
@@ -47,12 +46,16 @@ same_string log a b = is_equal (compare_bytes (part_of log a) (part_of log b))
 
 -- ---- a group: the versions of one user key, of which the highest that the handle sees decides
 
--- what it says, and the place of the key that said it, with one version more
+-- what it says, and the place of the key that said it
+abbrev pub in_group : Part → Seen → Walk
+in_group key seen = Within (record { key = key; seen = seen })
+
+-- the same with one version more
 abbrev pub later_by : Part → Seen → Part → Seen → Walk
-later_by key old k Hidden = Within key old
-later_by key old k Gone = Within k Gone
-later_by key old k Bad = Within k Bad
-later_by key old k (Value v) = Within k (Value v)
+later_by key old k Hidden = in_group key old
+later_by key old k Gone = in_group k Gone
+later_by key old k Bad = in_group k Bad
+later_by key old k (Value v) = in_group k (Value v)
 
 -- the step's answer where it ends with the group
 abbrev pub group_answer : Part → Seen → Result KeyValue Refusal
@@ -65,8 +68,8 @@ group_answer key (Value v) = Ok (record { key = key; value = v })
 
 -- of another group: the step goes on only where the old group gives nothing
 abbrev pub closed_by : Part → Part → Seen → Seen → Walk
-closed_by key k new Hidden = Within k new
-closed_by key k new Gone = Within k new
+closed_by key k new Hidden = in_group k new
+closed_by key k new Gone = in_group k new
 closed_by key k new Bad = Over (Err BadStore)
 closed_by key k new (Value v) = Over (Ok (record { key = key; value = v }))
 
@@ -77,35 +80,35 @@ spoilt_by key Gone = Over (Err BadStore)
 spoilt_by key Bad = Over (Err BadStore)
 spoilt_by key (Value v) = Broken key v
 
-abbrev pub opened_by : Record → Walk
-opened_by Junk = Over (Err BadStore)
-opened_by (Good key seen) = Within key seen
+abbrev pub opened_by : Option Record → Walk
+opened_by None = Over (Err BadStore)
+opened_by (Some x) = Within x
 
-abbrev pub within_by : List ℕ → Part → Seen → Record → Walk
-within_by log key seen Junk = spoilt_by key seen
-within_by log key seen (Good k new) = pick (same_string log key k) (later_by key seen k new) (closed_by key k new seen)
+abbrev pub within_by : List ℕ → Part → Seen → Option Record → Walk
+within_by log key seen None = spoilt_by key seen
+within_by log key seen (Some x) = pick (same_string log key x.key) (later_by key seen x.key x.seen) (closed_by key x.key x.seen seen)
 
 -- a version of the group behind a key that does not decode: the step had to read that key
-abbrev pub broken_by : List ℕ → Part → Part → Record → Walk
-broken_by log key value Junk = Broken key value
-broken_by log key value (Good k new) = pick (same_string log key k) (Over (Err BadStore)) (Over (Ok (record { key = key; value = value })))
+abbrev pub broken_by : List ℕ → Part → Part → Option Record → Walk
+broken_by log key value None = Broken key value
+broken_by log key value (Some x) = pick (same_string log key x.key) (Over (Err BadStore)) (Over (Ok (record { key = key; value = value })))
 
-abbrev pub next_walk : List ℕ → Walk → Record → Walk
+abbrev pub next_walk : List ℕ → Walk → Option Record → Walk
 next_walk log Start x = opened_by x
-next_walk log (Within key seen) x = within_by log key seen x
+next_walk log (Within g) x = within_by log g.key g.seen x
 next_walk log (Broken key value) x = broken_by log key value x
 next_walk log (Over answer) x = Over answer
 
 abbrev pub ended_by : Walk → Result KeyValue Refusal
 ended_by Start = Err Absent
-ended_by (Within key seen) = group_answer key seen
+ended_by (Within g) = group_answer g.key g.seen
 ended_by (Broken key value) = Ok (record { key = key; value = value })
 ended_by (Over answer) = answer
 
 -- the answer is known, and no record behind changes it
 abbrev pub is_over : Walk → Bool
 is_over Start = false
-is_over (Within key seen) = false
+is_over (Within g) = false
 is_over (Broken key value) = false
 is_over (Over answer) = true
 

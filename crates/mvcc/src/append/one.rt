@@ -1,36 +1,25 @@
 // One set appended, or none: one search, by which it is judged and laid.
 ghost use Rattle.std.specs.Prelude.{◌≡◌, [], ◌∷◌};
 ghost use Rattle.bitcask.specs.entry.Entry.{set as set_entry};
-ghost use Rattle.bitcask.specs.engine.Marks.{mark_of, Held};
-ghost use Rattle.mvcc.specs.append.Appends.{Appends};
+ghost use Rattle.bitcask.specs.engine.Stores.{SameLent, Counted};
+ghost use Rattle.mvcc.specs.append.Appends.{AppendsTo};
 
 use bitcask::Used;
 use bitcask::append::room_after;
-use bitcask::engine::change::{append_set, wants};
-use bitcask::engine::{Mark, View};
+use bitcask::engine::Store;
+use bitcask::engine::change::wants;
 use keycode::Refusal;
 
-pub(crate) fn append_one(
-    log: &mut [u8],
-    table: &mut [u32],
-    mark: Mark,
-    key: &[u8],
-    value: &[u8],
-) -> Result<Used, Refusal>
-    requires { (Held log.old table.old mark) × (mark ≡ mark_of mark.used table.old) }
-    ensures { Appends log.old table.old mark (set_entry key.now value.now ∷ []) result log.new table.new }
+pub(crate) fn append_one(store: &mut Store, key: &[u8], value: &[u8]) -> Result<Used, Refusal>
+    requires { Counted store.old }
+    ensures lent { SameLent store.old store.new }
+    ensures appends { AppendsTo store.old (set_entry key.now value.now ∷ []) result store.new }
 {
-    let view = View { log, table, mark };
+    let view = store.view();
     let found = view.find(key);
     let room = view.room_in();
     let left = room_after(room, key.len(), value.len());
-    match view.judge(left, wants(found)) {
-        Err(r) => Err(r),
-        Ok(()) => {
-            let none = &value[..0];
-            let last = append_set(log, table, mark, found, key, value, none);
-            let used = last.used;
-            Ok(used)
-        }
-    }
+    view.judge(left, wants(found))?;
+    store.append_set(found, key, value, &value[..0]);
+    Ok(store.mark.used)
 }

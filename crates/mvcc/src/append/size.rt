@@ -14,8 +14,7 @@ pub(crate) fn sized(klen: usize, vlen: usize) -> Result<(), Refusal>
         return Err(Refusal::KeyTooLong);
     }
     if MAX_VALUE < vlen {
-        Err(Refusal::ValueTooLong)
-    } else {
-        Ok(())
+        return Err(Refusal::ValueTooLong);
     }
+    Ok(())
 }

@@ -1,19 +1,16 @@
 // Rows ended and one key more deleted, as a commit does it: 7, then the tombstones.
 ghost use Rattle.std.specs.Prelude.{◌≡◌, ◌≤◌, length};
-ghost use Rattle.bitcask.specs.engine.Marks.{Held, mark_of};
 ghost use Rattle.bitcask.specs.engine.Views.{shown};
-ghost use Rattle.bitcask.specs.engine.Rows.{rows};
+ghost use Rattle.bitcask.specs.engine.Stores.{state_of, kept, SameLent, Counted};
 ghost use Rattle.bitcask.specs.engine.Spots.{rank};
 ghost use Rattle.bitcask.specs.engine.Ranges.{between};
 ghost use Rattle.bitcask.specs.engine.Prefixes.{Prefixes};
 ghost use Rattle.mvcc.specs.request.Ranges.{write_prefix};
-ghost use Rattle.mvcc.specs.end.Ways.{store_of, del_where, Clears};
+ghost use Rattle.mvcc.specs.end.Ways.{del_where, Clears};
 
 use bitcask::Used;
 use bitcask::append::room_after;
-use bitcask::engine::change::append_del;
-use bitcask::engine::ending::end_span;
-use bitcask::engine::{Mark, Span, View};
+use bitcask::engine::{Span, Store, View};
 use keycode::Refusal;
 use keycode::number::put_number;
 
@@ -27,41 +24,31 @@ pub(crate) fn write_span(view: &View, version: u64) -> Span
 }
 
 // A key deleted where there is room. The callers ask before, so that there is none on tables alone that were altered by hand.
-pub(crate) fn del_key(log: &mut [u8], table: &mut [u32], mark: Mark, key: &[u8]) -> Mark
-    requires { Held log.old table.old mark }
-    ensures { store_of log.new table.new result ≡ del_where (store_of log.old table.old mark) key.now }
+pub(crate) fn del_key(store: &mut Store, key: &[u8])
+    ensures lent { SameLent store.old store.new }
+    ensures state { state_of store.new ≡ del_where (state_of store.old) key.now }
 {
-    let room = log.len() - mark.used.len;
+    let room = store.log.len() - store.mark.used.len;
     if room < 8 {
-        return mark;
+        return;
     }
     if room - 8 < key.len() {
-        return mark;
+        return;
     }
-    append_del(log, table, mark, key)
+    store.append_del(key);
 }
 
 // All rows of a span ended, and then one key more deleted, all or none.
-pub(crate) fn clear(
-    log: &mut [u8],
-    table: &mut [u32],
-    mark: Mark,
-    span: Span,
-    key: &[u8],
-) -> Result<Used, Refusal>
-    requires { (Held log.old table.old mark) × (mark ≡ mark_of mark.used table.old) × (rank span.to (rows log.old table.old mark) ≤ length (rows log.old table.old mark)) }
-    ensures { Clears log.old table.old mark (between span.from span.to (rows log.old table.old mark))
-        key.now result log.new table.new }
+pub(crate) fn clear(store: &mut Store, span: Span, key: &[u8]) -> Result<Used, Refusal>
+    requires { (Counted store.old) × (rank span.to (kept store.old) ≤ length (kept store.old)) }
+    ensures lent { SameLent store.old store.new }
+    ensures clears { Clears store.old.log.now store.old.table.now store.old.mark (between span.from span.to (kept store.old))
+        key.now result store.new.log.now store.new.table.now }
 {
-    let view = View { log, table, mark };
-    let room = view.span_room(Some(log.len() - mark.used.len), span);
-    match room_after(room, key.len(), 0) {
-        None => Err(Refusal::LogFull),
-        Some(_) => {
-            let mid = end_span(log, table, mark, span);
-            let last = del_key(log, table, mid, key);
-            let used = last.used;
-            Ok(used)
-        }
-    }
+    let room = store.log.len() - store.mark.used.len;
+    let room = store.view().span_room(Some(room), span);
+    room_after(room, key.len(), 0).ok_or(Refusal::LogFull)?;
+    store.end_span(span);
+    del_key(store, key);
+    Ok(store.mark.used)
 }

@@ -34,8 +34,7 @@ fn located(seen: Seen) -> Result<Part, Refusal>
     ensures { result ≡ located_seen seen }
 {
     match seen {
-        Seen::Hidden => Err(Refusal::Absent),
-        Seen::Gone => Err(Refusal::Absent),
+        Seen::Hidden | Seen::Gone => Err(Refusal::Absent),
         Seen::Bad => Err(Refusal::BadStore),
         Seen::Value(p) => Ok(p),
     }
@@ -50,13 +49,9 @@ pub fn get(
 ) -> Result<Part, Refusal>
     ensures { Gets log.now used.len table.now handle key.now result }
 {
-    match admit(log, used, table, handle) {
-        Err(r) => Err(r),
-        Ok(view) => {
-            if MAX_KEY < key.len() {
-                return Err(Refusal::KeyTooLong);
-            }
-            located(highest(&view, handle, key))
-        }
+    let view = admit(log, used, table, handle)?;
+    if MAX_KEY < key.len() {
+        return Err(Refusal::KeyTooLong);
     }
+    located(highest(&view, handle, key))
 }

@@ -9,7 +9,7 @@ ghost use Rattle.bitcask.specs.engine.Spots.{rank};
 ghost use Rattle.mvcc.specs.walk.Walks.{step_rows};
 ghost use Rattle.mvcc.specs.scan.Bounds.{key_fits, last_fits, keys_fit, low_kind, low_bytes, high_kind, high_bytes, start_rank, past_rows, scan_rows};
 
-use crate::handle::Handle;
+use crate::handle::{Handle, LAST_VERSION};
 use crate::walk::step_from;
 use bitcask::engine::{Spot, View};
 use bitcask::{Bound, KeyValue};
@@ -17,9 +17,6 @@ use keycode::code::{Code, version_code};
 use keycode::limits::KEY_BYTES;
 use keycode::{Refusal, compare};
 use std::cmp::Ordering;
-
-// The highest version that a key can have.
-const LAST_VERSION: u64 = 0xffff_ffff_ffff_ffff;
 
 fn low_kind(lower: Bound) -> Bound
     ensures { result ≡ low_kind lower }

@@ -94,14 +94,10 @@ pub fn scan_prefix_step(
 ) -> Result<KeyValue, Refusal>
     ensures { ScansPrefix log.now used.len table.now handle prefix.now given last.now result }
 {
-    match admit(log, used, table, handle) {
-        Err(r) => Err(r),
-        Ok(view) => {
-            if prefix_fits(prefix, given, last) {
-                step_begun(&view, handle, prefix, given, last)
-            } else {
-                Err(Refusal::KeyTooLong)
-            }
-        }
+    let view = admit(log, used, table, handle)?;
+    if prefix_fits(prefix, given, last) {
+        step_begun(&view, handle, prefix, given, last)
+    } else {
+        Err(Refusal::KeyTooLong)
     }
 }

@@ -10,19 +10,15 @@ use keycode::{Part, Refusal};
 pub fn get_unversioned(log: &[u8], used: Used, table: &[u32], key: &[u8]) -> Result<Part, Refusal>
     ensures { GetsUnversioned log.now used.len table.now key.now result }
 {
-    match enter(log, used, table) {
-        Err(r) => Err(r),
-        Ok(view) => {
-            if MAX_KEY < key.len() {
-                return Err(Refusal::KeyTooLong);
-            }
-            let code = unversioned_code(key);
-            let bytes = code.bytes;
-            let len = code.len;
-            match view.find(&bytes[..len]) {
-                Ok(p) => Ok(view.value_place(p)),
-                Err(_) => Err(Refusal::Absent),
-            }
-        }
+    let view = enter(log, used, table)?;
+    if MAX_KEY < key.len() {
+        return Err(Refusal::KeyTooLong);
     }
+    let code = unversioned_code(key);
+    let bytes = code.bytes;
+    let len = code.len;
+    let Ok(p) = view.find(&bytes[..len]) else {
+        return Err(Refusal::Absent);
+    };
+    Ok(view.value_place(p))
 }

@@ -4,7 +4,7 @@ ghost use Rattle.mvcc.specs.unversioned.Promises.{SetsPlain};
 use crate::append::one::append_one;
 use crate::append::size::sized;
 use bitcask::Used;
-use bitcask::engine::enter;
+use bitcask::engine::{Store, enter};
 use keycode::Refusal;
 use keycode::code::unversioned_code;
 
@@ -17,17 +17,12 @@ pub fn set_unversioned(
 ) -> Result<Used, Refusal>
     ensures { SetsPlain log.old used.len table.old key.now value.now result log.new table.new }
 {
-    match enter(log, used, table) {
-        Err(r) => Err(r),
-        Ok(view) => match sized(key.len(), value.len()) {
-            Err(r) => Err(r),
-            Ok(()) => {
-                let mark = view.mark;
-                let code = unversioned_code(key);
-                let bytes = code.bytes;
-                let len = code.len;
-                append_one(log, table, mark, &bytes[..len], value)
-            }
-        },
-    }
+    let view = enter(log, used, table)?;
+    let mark = view.mark;
+    sized(key.len(), value.len())?;
+    let code = unversioned_code(key);
+    let bytes = code.bytes;
+    let len = code.len;
+    let mut store = Store { log, table, mark };
+    append_one(&mut store, &bytes[..len], value)
 }

@@ -1,10 +1,8 @@
 -- `live`: whether the search found a row.
+use mathlib.Core.Path.{◌∙◌}
 use Rattle.bitcask.specs.engine.Views.{shown}
-use Rattle.bitcask.proofs.engine.LookLaws.{found_has, absent_has}
+use Rattle.mvcc.proofs.admission.AdmitLaws.{found_live}
 use Rattle.mvcc.proofs.admission.live.Goals as goal
 
-pub returns-in-Ok : goal.returns-in-Ok
-returns-in-Ok c = let a = c.args in found_has a.key.now (shown a.view.now) c.find.ensures _ c.in-Ok.is
-
-pub returns-in-Err : goal.returns-in-Err
-returns-in-Err c = let a = c.args in absent_has a.key.now (shown a.view.now) c.find.ensures _ c.in-Err.is
+pub returns : goal.returns
+returns c = let a = c.args in c.is_ok.ensures.value ∙ found_live a.key.now (shown a.view.now) c.find.result c.find.ensures

@@ -1,18 +1,22 @@
--- `read_value` goes by the first byte.
-use Rattle.mvcc.proofs.payload.PayloadLaws.{value_none, value_some, value-other, value_gone, value_left}
+-- `read_value` goes by the first byte, and a tombstone by the length too.
+use native.Mathlib.Omega.{arith}
+use Rattle.mvcc.proofs.payload.PayloadLaws.{value_none, value_some, value_gone, value-other, value-long}
 use Rattle.mvcc.proofs.payload.read_value.Goals as goal
 
-pub returns-then-bytes-lt1 : goal.returns-then-bytes-lt1
-returns-then-bytes-lt1 c = value_none c.args.bytes.now c.if-bytes-lt1.true
+pub returns-in-0 : goal.returns-in-0
+returns-in-0 c = value_gone c.args.bytes.now (omega arith) (omega arith)
 
-pub returns-then-bytes-eq-VALUE_TAG : goal.returns-then-bytes-eq-VALUE_TAG
-returns-then-bytes-eq-VALUE_TAG c = value_some c.args.bytes.now c.if-bytes-lt1.false c.if-bytes-eq-VALUE_TAG.true
+pub returns-in-1 : goal.returns-in-1
+returns-in-1 c = value_some c.args.bytes.now (omega arith) (omega arith)
 
-pub returns-then-bytes-ne-GONE_TAG : goal.returns-then-bytes-ne-GONE_TAG
-returns-then-bytes-ne-GONE_TAG c = value-other c.args.bytes.now c.if-bytes-lt1.false c.if-bytes-eq-VALUE_TAG.false c.if-bytes-ne-GONE_TAG.true
+pub returns-in-1-2 : goal.returns-in-1-2
+returns-in-1-2 c = value_some c.args.bytes.now (omega arith) (omega arith)
 
-pub returns-then-bytes-eq1 : goal.returns-then-bytes-eq1
-returns-then-bytes-eq1 c = value_gone c.args.bytes.now c.if-bytes-ne-GONE_TAG.false c.if-bytes-eq1.true
+pub returns-in_default : goal.returns-in_default
+returns-in_default c = value_none c.args.bytes.now (omega arith)
 
-pub returns-else-bytes-eq1 : goal.returns-else-bytes-eq1
-returns-else-bytes-eq1 c = value_left c.args.bytes.now c.if-bytes-lt1.false c.if-bytes-ne-GONE_TAG.false c.if-bytes-eq1.false
+pub returns-in_default-2 : goal.returns-in_default-2
+returns-in_default-2 c = value-other c.args.bytes.now (omega arith) (λ e. omega arith) (λ e. omega arith)
+
+pub returns-in_default-3 : goal.returns-in_default-3
+returns-in_default-3 c = value-long c.args.bytes.now (omega arith) (λ e. omega arith)

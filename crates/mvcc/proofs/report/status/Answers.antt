@@ -1,18 +1,21 @@
 -- `status`: 13, then 12.
-use mathlib.Core.Path.{ap}
+use borrow.Author.Rules.{rules}
+use Rattle.std.specs.Prelude.{Err}
+use mathlib.Core.Path.{◌≡◌, ap}
 use Rattle.bitcask.specs.engine.Rows.{rows}
 use Rattle.bitcask.specs.engine.Views.{marked}
 use Rattle.mvcc.proofs.read_only.StatusLaws.{next_positive, states_sizes, states-bad, states_done}
+use Rattle.mvcc.proofs.OrLaws.{or_value, or_none}
 use Rattle.mvcc.proofs.report.status.Goals as goal
 
 pub overflow_sub-result : goal.overflow_sub-result
-overflow_sub-result c = let a = c.args in let w = c.enter.ensures.view _ c.in-Ok.is in next_positive (rows a.log.now a.table.now c.in-Ok.view.mark) _ (rw (← w.log_is, ← w.table_is) c.next_version.ensures) c.in-Some.is
+overflow_sub-result c = let a = c.args in let y = c.enter.ensures.view _ c.in_ok-view.was in next_positive (rows a.log.now a.table.now c.in_ok-view.view.mark) _ (rw (y.log_is, y.table_is) at c.next_version.ensures) (or_value _ _ c.ok_or.ensures.value _ c.in_ok-next.was)
 
-pub returns-in-Err : goal.returns-in-Err
-returns-in-Err c = let a = c.args in states_sizes a.log.now a.used a.table.now c.enter.ensures.mark _ (ap marked c.in-Err.is)
+pub returns-in_err-view : goal.returns-in_err-view
+returns-in_err-view c = let a = c.args in let e : c.from_residual.result ≡ Err c.in_err-view.field-0.0 = search rules in rw e (states_sizes a.log.now a.used a.table.now c.enter.ensures.mark _ (ap marked c.in_err-view.was))
 
-pub returns-in-None : goal.returns-in-None
-returns-in-None c = let a = c.args in let w = c.enter.ensures.view _ c.in-Ok.is in states-bad a.log.now a.used a.table.now c.enter.ensures.mark _ (ap marked c.in-Ok.is) (rw (← w.log_is, ← w.table_is) c.next_version.ensures) c.in-None.is
+pub returns-in_err-next : goal.returns-in_err-next
+returns-in_err-next c = let a = c.args in let y = c.enter.ensures.view _ c.in_ok-view.was in let e : c.from_residual-in_err-next.result ≡ Err c.in_err-next.field-0.0 = search rules in let w = or_none _ _ c.ok_or.ensures.value _ c.in_err-next.was in rw (e, w.1) (states-bad a.log.now a.used a.table.now c.enter.ensures.mark _ (ap marked c.in_ok-view.was) (rw (y.log_is, y.table_is) at c.next_version.ensures) (w.0))
 
-pub returns-in-Some : goal.returns-in-Some
-returns-in-Some c = let a = c.args in let w = c.enter.ensures.view _ c.in-Ok.is in states_done a.log.now a.used a.table.now c.enter.ensures.mark _ (ap marked c.in-Ok.is) (rw (← w.log_is, ← w.table_is) c.next_version.ensures) (λ i. (c.type_inv.log i).fits) _ c.in-Some.is c.open_span-span.result (rw (← w.log_is, ← w.table_is) c.open_span-span.ensures) {k = c.rows_in-open.result} (rw (← w.log_is, ← w.table_is) c.rows_in-open.ensures)
+pub returns : goal.returns
+returns c = let a = c.args in let y = c.enter.ensures.view _ c.in_ok-view.was in states_done a.log.now a.used a.table.now c.enter.ensures.mark _ (ap marked c.in_ok-view.was) (rw (y.log_is, y.table_is) at c.next_version.ensures) (λ i. (c.type_inv.log i).fits) _ (or_value _ _ c.ok_or.ensures.value _ c.in_ok-next.was) _ (rw (y.log_is, y.table_is) at c.open_span-span.ensures) (rw (y.log_is, y.table_is) at c.rows_in-open.ensures)

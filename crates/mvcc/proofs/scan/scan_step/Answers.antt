@@ -1,5 +1,7 @@
 -- `scan_step_lem`: the checks, and then the walk.
-use mathlib.Core.Path.{sym, ap, ◌∙◌}
+use borrow.Author.Rules.{rules}
+use Rattle.std.specs.Prelude.{Err}
+use mathlib.Core.Path.{sym, ◌∙◌, ◌≡◌, ap}
 use Rattle.bitcask.specs.declared.engine.mark.Mark.{Mark}
 use Rattle.bitcask.specs.engine.Rows.{rows}
 use Rattle.bitcask.specs.engine.Views.{marked}
@@ -11,11 +13,11 @@ use Rattle.mvcc.proofs.scan.scan_step.Goals as goal
 pub step_between-requires : goal.step_between-requires
 step_between-requires c = let a = c.args in (sym c.keys_fit.ensures ∙ c.if-keys_fit.true)
 
-pub returns-in-Err : goal.returns-in-Err
-returns-in-Err c = let a = c.args in scan_refused a.log.now a.used a.table.now a.handle _ _ (λ (m : Mark). scan_rows a.lower a.low.now a.upper a.high.now a.given a.last.now (rows a.log.now a.table.now m)) (scan_agrees a.lower a.low.now a.upper a.high.now a.given a.last.now a.log.now a.table.now) c.admit.ensures.mark _ (ap marked c.in-Err.is)
+pub returns-in_err-view : goal.returns-in_err-view
+returns-in_err-view c = let a = c.args in let e : c.from_residual.result ≡ Err c.in_err-view.field-0.0 = search rules in rw e (scan_refused a.log.now a.used a.table.now a.handle _ _ (λ (m : Mark). scan_rows a.lower a.low.now a.upper a.high.now a.given a.last.now (rows a.log.now a.table.now m)) (scan_agrees a.lower a.low.now a.upper a.high.now a.given a.last.now a.log.now a.table.now) c.admit.ensures.mark _ (ap marked c.in_err-view.was))
 
 pub returns-then-keys_fit : goal.returns-then-keys_fit
-returns-then-keys_fit c = let a = c.args in let w = c.admit.ensures.view _ c.in-Ok.is in scan_done a.log.now a.used a.table.now a.handle _ _ (λ (m : Mark). scan_rows a.lower a.low.now a.upper a.high.now a.given a.last.now (rows a.log.now a.table.now m)) (scan_agrees a.lower a.low.now a.upper a.high.now a.given a.last.now a.log.now a.table.now) c.admit.ensures.mark _ (ap marked c.in-Ok.is) c.keys_fit.ensures c.if-keys_fit.true (rw (← w.log_is, ← w.table_is) c.step_between.ensures)
+returns-then-keys_fit c = let a = c.args in let y = c.admit.ensures.view _ c.in_ok-view.was in scan_done a.log.now a.used a.table.now a.handle _ _ (λ (m : Mark). scan_rows a.lower a.low.now a.upper a.high.now a.given a.last.now (rows a.log.now a.table.now m)) (scan_agrees a.lower a.low.now a.upper a.high.now a.given a.last.now a.log.now a.table.now) c.admit.ensures.mark _ (ap marked c.in_ok-view.was) c.keys_fit.ensures c.if-keys_fit.true (rw (y.log_is, y.table_is) at c.step_between.ensures)
 
 pub returns-else-keys_fit : goal.returns-else-keys_fit
-returns-else-keys_fit c = let a = c.args in scan_long a.log.now a.used a.table.now a.handle _ _ (λ (m : Mark). scan_rows a.lower a.low.now a.upper a.high.now a.given a.last.now (rows a.log.now a.table.now m)) (scan_agrees a.lower a.low.now a.upper a.high.now a.given a.last.now a.log.now a.table.now) c.admit.ensures.mark _ (ap marked c.in-Ok.is) c.keys_fit.ensures c.if-keys_fit.false
+returns-else-keys_fit c = let a = c.args in scan_long a.log.now a.used a.table.now a.handle _ _ (λ (m : Mark). scan_rows a.lower a.low.now a.upper a.high.now a.given a.last.now (rows a.log.now a.table.now m)) (scan_agrees a.lower a.low.now a.upper a.high.now a.given a.last.now a.log.now a.table.now) c.admit.ensures.mark _ (ap marked c.in_ok-view.was) c.keys_fit.ensures c.if-keys_fit.false

@@ -16,8 +16,8 @@ slice_bounds-find-end c = let w = c.next_version_code-code.ensures in sym (lengt
 pub value_at-requires : goal.value_at-requires
 value_at-requires c = (found_stands _ _ c.find.ensures _ c.in-Ok.is)
 
-pub returns-in-Err : goal.returns-in-Err
-returns-in-Err c = let a = c.args in next_missing (shown a.view.now) _ c.next_version_code-code.ensures _ c.find.ensures _ c.in-Err.is
+pub returns-in_default : goal.returns-in_default
+returns-in_default c = let a = c.args in next_missing (shown a.view.now) _ c.next_version_code-code.ensures _ c.find.ensures _ c.in_default.is
 
-pub returns-in-Ok : goal.returns-in-Ok
-returns-in-Ok c = let a = c.args in next_found (shown a.view.now) _ c.next_version_code-code.ensures _ c.find.ensures _ c.in-Ok.is c.value_at.ensures c.read_version.ensures c.positive.ensures
+pub returns : goal.returns
+returns c = let a = c.args in next_found (shown a.view.now) _ c.next_version_code-code.ensures _ c.find.ensures _ c.in-Ok.is c.value_at.ensures c.read_version.ensures c.positive.ensures

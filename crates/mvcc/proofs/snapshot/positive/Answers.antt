@@ -1,6 +1,7 @@
 -- `positive` refuses version 0.
-use Rattle.mvcc.proofs.snapshot.ActiveLaws.{next_own}
+use borrow.Author.Rules.{rules}
+use Rattle.mvcc.proofs.snapshot.ActiveLaws.{next_kept}
 use Rattle.mvcc.proofs.snapshot.positive.Goals as goal
 
-pub returns-else-v-eq0 : goal.returns-else-v-eq0
-returns-else-v-eq0 c = next_own _ c.in-Some.is c.if-v-eq0.false
+pub returns : goal.returns
+returns c = next_kept _ (λ x b k. search rules) c.args.read c.filter.ensures

@@ -15,16 +15,10 @@ pub slice_bounds-append_pair-end-then-open-eq0-2 : goal.slice_bounds-append_pair
 slice_bounds-append_pair-end-then-open-eq0-2 c = let w = c.active_code-own.ensures in sym (length-take-le _ _ (omega (arith, w.whole, w.within)))
 
 pub append_pair-requires : goal.append_pair-requires
-append_pair-requires c = let p = c.requires in let a = c.args in (p.0, p.1, next_less a.version c.next_version_code-next.ensures c.active_code-own.ensures, omega arith, omega arith)
+append_pair-requires c = let p = c.requires in let a = c.args in (p.0, next_less a.version c.next_version_code-next.ensures c.active_code-own.ensures, omega arith, omega arith)
 
-pub shape_of-log-then-open-eq0 : goal.shape_of-log-then-open-eq0
-shape_of-log-then-open-eq0 c = c.append_pair.auto.log
-
-pub shape_of-table-then-open-eq0 : goal.shape_of-table-then-open-eq0
-shape_of-table-then-open-eq0 c = c.append_pair.auto.table
-
-pub returns-then-open-eq0 : goal.returns-then-open-eq0
-returns-then-open-eq0 c = let a = c.args in plan_two a.log.now a.table.now a.mark a.«open» a.version a.set.now _ _ _ _ _ _ c.next_version_code-next.ensures c.active_code-own.ensures (whole-laid _ (version_bytes (a.version + 1)) c.put_version.ensures (sym (length-be 8 (a.version + 1)))) c.if-open-eq0.true c.append_pair.ensures
+pub returns-then-open-eq0-clause-appends : goal.returns-then-open-eq0-clause-appends
+returns-then-open-eq0-clause-appends c = let a = c.args in plan_two a.store.now.log.now a.store.now.table.now a.store.now.mark a.«open» a.version a.set.now _ _ _ _ _ _ c.next_version_code-next.ensures c.active_code-own.ensures (whole-laid _ (version_bytes (a.version + 1)) c.put_version.ensures (sym (length-be 8 (a.version + 1)))) c.if-open-eq0.true c.append_pair.ensures.appends
 
 pub slice_bounds-append_three-end : goal.slice_bounds-append_three-end
 slice_bounds-append_three-end c = let w = c.next_version_code-next.ensures in sym (length-take-le _ _ (omega (arith, w.whole, w.within)))
@@ -36,13 +30,7 @@ pub slice_bounds-append_three-end-4 : goal.slice_bounds-append_three-end-4
 slice_bounds-append_three-end-4 c = let w = c.active_code-own.ensures in sym (length-take-le _ _ (omega (arith, w.whole, w.within)))
 
 pub append_three-requires : goal.append_three-requires
-append_three-requires c = let p = c.requires in let a = c.args in (p.0, p.1, next_less a.version c.next_version_code-next.ensures c.active_code-own.ensures, own_less a.version c.active_code-own.ensures c.snapshot_code-snapshot.ensures)
+append_three-requires c = let p = c.requires in let a = c.args in (p.0, next_less a.version c.next_version_code-next.ensures c.active_code-own.ensures, own_less a.version c.active_code-own.ensures c.snapshot_code-snapshot.ensures)
 
-pub shape_of-log : goal.shape_of-log
-shape_of-log c = c.append_three.auto.log
-
-pub shape_of-table : goal.shape_of-table
-shape_of-table c = c.append_three.auto.table
-
-pub returns : goal.returns
-returns c = let a = c.args in plan_three a.log.now a.table.now a.mark a.«open» a.version a.set.now _ _ _ _ _ _ c.next_version_code-next.ensures c.active_code-own.ensures (whole-laid _ (version_bytes (a.version + 1)) c.put_version.ensures (sym (length-be 8 (a.version + 1)))) c.if-open-eq0.false _ c.snapshot_code-snapshot.ensures c.append_three.ensures
+pub returns-clause-appends : goal.returns-clause-appends
+returns-clause-appends c = let a = c.args in plan_three a.store.now.log.now a.store.now.table.now a.store.now.mark a.«open» a.version a.set.now _ _ _ _ _ _ c.next_version_code-next.ensures c.active_code-own.ensures (whole-laid _ (version_bytes (a.version + 1)) c.put_version.ensures (sym (length-be 8 (a.version + 1)))) c.if-open-eq0.false _ c.snapshot_code-snapshot.ensures c.append_three.ensures.appends

@@ -1,22 +1,21 @@
-use Rattle.bitcask.specs.engine.Rows.{rows}
+use Prim.Native.Nat.{◌+◌, ◌-◌}
+use mathlib.Core.Path.{◌≡◌, refl, ◌∙◌}
+use native.Mathlib.Omega.{arith}
 use Rattle.bitcask.specs.engine.Spots.{rank}
+use Rattle.bitcask.specs.engine.Stores.{kept}
 use Rattle.mvcc.proofs.undo.UndoStepLaws.{undo_start, undo_turn, undo_end}
 use Rattle.mvcc.proofs.undo.undo_many.Goals as goal
 
-pub loop-left-init : goal.loop-left-init
-loop-left-init c = let a = c.args in undo_start a.n (rank a.spot (rows a.log.now a.table.now a.mark)) a.version c.requires
+pub loop-init : goal.loop-init
+loop-init c =
+    let a = c.args in let s = a.store.now in let z : a.n - 0 ≡ a.n = omega arith in
+    ((refl, refl), rw z (undo_start a.n (rank a.spot (kept s)) a.version s.held))
 
-pub undo_row-last-requires : goal.undo_row-last-requires
-undo_row-last-requires c = c.loop-left.invariant.sized
-
-pub loop-left-preserved : goal.loop-left-preserved
-loop-left-preserved c = let a = c.args in undo_turn a.spot c.loop-left.invariant c.loop-left-test.true c.undo_row-last.ensures
-
-pub shape_of-log : goal.shape_of-log
-shape_of-log c = c.loop-left.invariant.keeps.extends.long
-
-pub shape_of-table : goal.shape_of-table
-shape_of-table c = c.loop-left.invariant.keeps.table
+pub loop-preserved : goal.loop-preserved
+loop-preserved c =
+    let a = c.args in let z : a.n - (c.loop.counter + 1) ≡ a.n - c.loop.counter - 1 = omega arith in
+    let i = c.loop.invariant in let e = c.undo_row.ensures in
+    ((e.lent.0 ∙ i.0.0, e.lent.1 ∙ i.0.1), rw z (undo_turn a.spot i.1 (omega arith) e.state))
 
 pub returns : goal.returns
-returns c = undo_end c.loop-left.invariant c.loop-left-test.false
+returns c = record { lent = c.loop.invariant.0; state = undo_end c.loop.invariant.1 (omega arith) }

@@ -1,12 +1,11 @@
--- `undo_many` undoes row by row.
-use Rattle.bitcask.specs.engine.Rows.{rows}
+-- `undo_many` undoes row by row, in the store that it was lent.
+use Prim.Native.Nat.{◌-◌}
 use Rattle.bitcask.specs.engine.Spots.{rank}
-use Rattle.mvcc.specs.end.Ways.{store_of}
+use Rattle.bitcask.specs.engine.Stores.{state_of, kept, SameLent}
 use Rattle.mvcc.proofs.undo.UndoStepLaws.{Undoing}
 use Rattle.mvcc.proofs.undo.undo_many.Given as goal
 
-abbrev pub invariant-loop-left : goal.invariant-loop-left
-invariant-loop-left l = Undoing l.n (store_of l.initial.log l.initial.table l.initial.last) (rank l.spot (rows l.initial.log l.initial.table l.initial.last)) l.version l.left (store_of l.log l.table l.last)
-
-abbrev pub decreases-loop-left : goal.decreases-loop-left
-decreases-loop-left l = l.left
+abbrev pub invariant-loop : goal.invariant-loop
+invariant-loop l =
+    let s = l.initial.store in
+    (SameLent s l.store) × (Undoing l.n (state_of s) (rank l.spot (kept s)) l.version (l.n - l.counter) (state_of l.store))

@@ -5,14 +5,11 @@ use Rattle.mvcc.proofs.walk.step_from.Goals as goal
 pub loop-p-init : goal.loop-p-init
 loop-p-init c = record { same = refl }
 
-pub returns-in-None : goal.returns-in-None
-returns-in-None c = walk_end c.loop-p.invariant c.row_from.ensures c.in-None.is c.ended.ensures
-
 pub record_at-row-requires : goal.record_at-row-requires
 record_at-row-requires c = (walk_stands c.loop-p.invariant c.row_from.ensures _ c.in-Some.is)
 
-pub returns-then-known : goal.returns-then-known
-returns-then-known c = walk_over c.loop-p.invariant c.row_from.ensures _ c.in-Some.is c.record_at-row.ensures c.next_walk-walk.ensures c.over-known.ensures c.if-known.true c.ended-then-known.ensures
+pub returns-then-is_over : goal.returns-then-is_over
+returns-then-is_over c = walk_over c.loop-p.invariant c.row_from.ensures _ c.in-Some.is c.record_at-row.ensures c.next-walk.ensures c.is_over.ensures c.if-is_over.true c.answer.ensures
 
 pub next-at-requires : goal.next-at-requires
 next-at-requires c = (walk_stands c.loop-p.invariant c.row_from.ensures _ c.in-Some.is)
@@ -21,4 +18,7 @@ pub loop-p-smaller : goal.loop-p-smaller
 loop-p-smaller c = walk_less c.loop-p.invariant c.row_from.ensures _ c.in-Some.is _ c.next-at.ensures
 
 pub loop-p-preserved : goal.loop-p-preserved
-loop-p-preserved c = walk_more c.loop-p.invariant c.row_from.ensures _ c.in-Some.is c.record_at-row.ensures c.next_walk-walk.ensures _ c.next-at.ensures
+loop-p-preserved c = walk_more c.loop-p.invariant c.row_from.ensures _ c.in-Some.is c.record_at-row.ensures c.next-walk.ensures _ c.next-at.ensures
+
+pub returns : goal.returns
+returns c = walk_end c.loop-p.invariant c.row_from.ensures c.in_default.is c.answer-2.ensures

@@ -13,13 +13,7 @@ pub slice_bounds-append_pair-end-3 : goal.slice_bounds-append_pair-end-3
 slice_bounds-append_pair-end-3 c = let w = c.version_code-stored.ensures in sym (length-take-le _ _ (omega (arith, w.whole, w.within)))
 
 pub append_pair-requires : goal.append_pair-requires
-append_pair-requires c = let p = c.requires in let a = c.args in (p.0, p.1, plan_less a.version a.key.now c.write_code-write.ensures c.version_code-stored.ensures, p.3, p.4)
+append_pair-requires c = let p = c.requires in let a = c.args in (p.0, plan_less a.version a.key.now c.write_code-write.ensures c.version_code-stored.ensures, p.2, p.3)
 
-pub shape_of-log : goal.shape_of-log
-shape_of-log c = c.append_pair.auto.log
-
-pub shape_of-table : goal.shape_of-table
-shape_of-table c = c.append_pair.auto.table
-
-pub returns : goal.returns
-returns c = let a = c.args in plan_appends a.log.now a.table.now a.mark a.version a.key.now (a.head.now ++ a.body.now) _ _ _ _ _ c.write_code-write.ensures c.version_code-stored.ensures c.append_pair.ensures
+pub returns-clause-appends : goal.returns-clause-appends
+returns-clause-appends c = let a = c.args in plan_appends a.store.now.log.now a.store.now.table.now a.store.now.mark a.version a.key.now (a.head.now ++ a.body.now) _ _ _ _ _ c.write_code-write.ensures c.version_code-stored.ensures c.append_pair.ensures.appends

@@ -1,20 +1,17 @@
 -- `append_one`: one search, the judgement, and the set laid.
+use borrow.Author.Rules.{rules}
+use Rattle.std.specs.Prelude.{Err}
+use mathlib.Core.Path.{◌≡◌}
 use Rattle.bitcask.proofs.engine.SetLaws.{found_among}
 use Rattle.mvcc.proofs.append.AllLaws.{all_refused}
 use Rattle.mvcc.proofs.append.OneLaws.{one_tried, one_room, one_done}
 use Rattle.mvcc.proofs.append.one.append_one.Goals as goal
 
-pub append_set-last-requires : goal.append_set-last-requires
-append_set-last-requires c = let a = c.args in let p = c.requires in let w = one_tried a.log.now a.table.now a.mark a.key.now a.value.now p.0 p.1 _ c.find-found.ensures c.room_in-room.ensures c.room_after-left.ensures c.wants.ensures c.judge.ensures in (p.0, one_room w c.in-Ok.is, found_among a.log.now a.table.now a.key.now a.mark _ c.find-found.ensures)
+pub append_set-requires : goal.append_set-requires
+append_set-requires c = let a = c.args in let s = a.store.now in let y = c.view-view.ensures in let p = c.requires in let w = one_tried s.log.now s.table.now s.mark a.key.now a.value.now s.held p _ (rw (y.log_is, y.table_is, y.mark_is) at c.find-found.ensures) (rw (y.log_is, y.mark_is) at c.room_in-room.ensures) c.room_after-left.ensures c.wants.ensures (rw (y.table_is, y.mark_is) at c.judge.ensures) in (one_room w c.in_ok-judge.was, found_among s.log.now s.table.now a.key.now s.mark _ (rw (y.log_is, y.table_is, y.mark_is) at c.find-found.ensures))
 
-pub returns-in-Err : goal.returns-in-Err
-returns-in-Err c = let a = c.args in let p = c.requires in all_refused (one_tried a.log.now a.table.now a.mark a.key.now a.value.now p.0 p.1 _ c.find-found.ensures c.room_in-room.ensures c.room_after-left.ensures c.wants.ensures c.judge.ensures) _ c.in-Err.is
+pub returns-in_err-judge-clause-appends : goal.returns-in_err-judge-clause-appends
+returns-in_err-judge-clause-appends c = let a = c.args in let s = a.store.now in let y = c.view-view.ensures in let p = c.requires in let e : c.from_residual.result ≡ Err c.in_err-judge.field-0.0 = search rules in rw e (all_refused (one_tried s.log.now s.table.now s.mark a.key.now a.value.now s.held p _ (rw (y.log_is, y.table_is, y.mark_is) at c.find-found.ensures) (rw (y.log_is, y.mark_is) at c.room_in-room.ensures) c.room_after-left.ensures c.wants.ensures (rw (y.table_is, y.mark_is) at c.judge.ensures)) _ c.in_err-judge.was)
 
-pub shape_of-log-in-Ok : goal.shape_of-log-in-Ok
-shape_of-log-in-Ok c = c.append_set-last.auto.log
-
-pub shape_of-table-in-Ok : goal.shape_of-table-in-Ok
-shape_of-table-in-Ok c = c.append_set-last.auto.table
-
-pub returns-in-Ok : goal.returns-in-Ok
-returns-in-Ok c = let a = c.args in let p = c.requires in one_done (one_tried a.log.now a.table.now a.mark a.key.now a.value.now p.0 p.1 _ c.find-found.ensures c.room_in-room.ensures c.room_after-left.ensures c.wants.ensures c.judge.ensures) c.in-Ok.is _ c.find-found.ensures _ _ c.append_set-last.result c.append_set-last.ensures
+pub returns-clause-appends : goal.returns-clause-appends
+returns-clause-appends c = let a = c.args in let s = a.store.now in let y = c.view-view.ensures in let p = c.requires in one_done (one_tried s.log.now s.table.now s.mark a.key.now a.value.now s.held p _ (rw (y.log_is, y.table_is, y.mark_is) at c.find-found.ensures) (rw (y.log_is, y.mark_is) at c.room_in-room.ensures) c.room_after-left.ensures c.wants.ensures (rw (y.table_is, y.mark_is) at c.judge.ensures)) c.in_ok-judge.was _ (rw (y.log_is, y.table_is, y.mark_is) at c.find-found.ensures) _ _ c.append_set.new.self.mark c.append_set.ensures.state

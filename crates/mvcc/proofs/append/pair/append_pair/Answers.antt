@@ -1,4 +1,7 @@
 -- `append_pair`: one search for each, the judgement, and both laid.
+use borrow.Author.Rules.{rules}
+use Rattle.std.specs.Prelude.{Err}
+use mathlib.Core.Path.{◌≡◌}
 use Rattle.bitcask.specs.engine.Sets.{spot_place}
 use Rattle.bitcask.proofs.engine.SetLaws.{found_among}
 use Rattle.mvcc.proofs.append.AllLaws.{wants-few, all_refused}
@@ -9,17 +12,17 @@ use Rattle.mvcc.proofs.append.pair.append_pair.Goals as goal
 pub overflow_add-wants : goal.overflow_add-wants
 overflow_add-wants c = omega (arith, c.wants.ensures, c.wants-2.ensures, wants-few (spot_place c.find-a.result), wants-few (spot_place c.find-b.result))
 
-pub append_set-mid-requires : goal.append_set-mid-requires
-append_set-mid-requires c = let a = c.args in let p = c.requires in (p.0, pair-first a.head.now a.body.now (pair-tried a.log.now a.table.now a.mark a.first.now a.value.now a.second.now a.head.now a.body.now p.0 p.1 p.2 _ _ c.find-a.ensures c.find-b.ensures c.room_in-room.ensures c.room_after-left.ensures c.room_after-rest.ensures c.wants.ensures c.wants-2.ensures c.judge.ensures) c.in-Ok.is, found_among a.log.now a.table.now a.first.now a.mark _ c.find-a.ensures)
+pub append_set-requires : goal.append_set-requires
+append_set-requires c = let a = c.args in let s = a.store.now in let y = c.view-view.ensures in let p = c.requires in (pair-first a.head.now a.body.now (pair-tried s.log.now s.table.now s.mark a.first.now a.value.now a.second.now a.head.now a.body.now s.held p.0 p.1 _ _ (rw (y.log_is, y.table_is, y.mark_is) at c.find-a.ensures) (rw (y.log_is, y.table_is, y.mark_is) at c.find-b.ensures) (rw (y.log_is, y.mark_is) at c.room_in-room.ensures) c.room_after-left.ensures c.room_after-rest.ensures c.wants.ensures c.wants-2.ensures (rw (y.table_is, y.mark_is) at c.judge.ensures)) c.in_ok-judge.was, found_among s.log.now s.table.now a.first.now s.mark _ (rw (y.log_is, y.table_is, y.mark_is) at c.find-a.ensures))
 
 pub behind-place-requires : goal.behind-place-requires
-behind-place-requires c = let a = c.args in let p = c.requires in pair-behind a.head.now a.body.now (pair-tried a.log.now a.table.now a.mark a.first.now a.value.now a.second.now a.head.now a.body.now p.0 p.1 p.2 _ _ c.find-a.ensures c.find-b.ensures c.room_in-room.ensures c.room_after-left.ensures c.room_after-rest.ensures c.wants.ensures c.wants-2.ensures c.judge.ensures) c.in-Ok.is _ _ c.find-a.ensures c.find-b.ensures _ _ c.append_set-mid.result c.append_set-mid.ensures
+behind-place-requires c = let a = c.args in let s = a.store.now in let y = c.view-view.ensures in let p = c.requires in pair-behind a.head.now a.body.now (pair-tried s.log.now s.table.now s.mark a.first.now a.value.now a.second.now a.head.now a.body.now s.held p.0 p.1 _ _ (rw (y.log_is, y.table_is, y.mark_is) at c.find-a.ensures) (rw (y.log_is, y.table_is, y.mark_is) at c.find-b.ensures) (rw (y.log_is, y.mark_is) at c.room_in-room.ensures) c.room_after-left.ensures c.room_after-rest.ensures c.wants.ensures c.wants-2.ensures (rw (y.table_is, y.mark_is) at c.judge.ensures)) c.in_ok-judge.was _ _ (rw (y.log_is, y.table_is, y.mark_is) at c.find-a.ensures) (rw (y.log_is, y.table_is, y.mark_is) at c.find-b.ensures) _ _ c.append_set.new.self.mark c.append_set.ensures.state
 
-pub append_set-last-requires : goal.append_set-last-requires
-append_set-last-requires c = let a = c.args in let p = c.requires in pair-second a.head.now a.body.now (pair-tried a.log.now a.table.now a.mark a.first.now a.value.now a.second.now a.head.now a.body.now p.0 p.1 p.2 _ _ c.find-a.ensures c.find-b.ensures c.room_in-room.ensures c.room_after-left.ensures c.room_after-rest.ensures c.wants.ensures c.wants-2.ensures c.judge.ensures) c.in-Ok.is _ _ c.find-a.ensures c.find-b.ensures _ _ c.append_set-mid.result c.append_set-mid.ensures _ c.behind-place.ensures
+pub append_set-requires-2 : goal.append_set-requires-2
+append_set-requires-2 c = let a = c.args in let s = a.store.now in let y = c.view-view.ensures in let p = c.requires in let z = pair-second a.head.now a.body.now (pair-tried s.log.now s.table.now s.mark a.first.now a.value.now a.second.now a.head.now a.body.now s.held p.0 p.1 _ _ (rw (y.log_is, y.table_is, y.mark_is) at c.find-a.ensures) (rw (y.log_is, y.table_is, y.mark_is) at c.find-b.ensures) (rw (y.log_is, y.mark_is) at c.room_in-room.ensures) c.room_after-left.ensures c.room_after-rest.ensures c.wants.ensures c.wants-2.ensures (rw (y.table_is, y.mark_is) at c.judge.ensures)) c.in_ok-judge.was _ _ (rw (y.log_is, y.table_is, y.mark_is) at c.find-a.ensures) (rw (y.log_is, y.table_is, y.mark_is) at c.find-b.ensures) _ _ c.append_set.new.self.mark c.append_set.ensures.state _ c.behind-place.ensures in (z.1, z.2)
 
-pub returns-in-Err : goal.returns-in-Err
-returns-in-Err c = let a = c.args in let p = c.requires in all_refused (pair-tried a.log.now a.table.now a.mark a.first.now a.value.now a.second.now a.head.now a.body.now p.0 p.1 p.2 _ _ c.find-a.ensures c.find-b.ensures c.room_in-room.ensures c.room_after-left.ensures c.room_after-rest.ensures c.wants.ensures c.wants-2.ensures c.judge.ensures) _ c.in-Err.is
+pub returns-in_err-judge-clause-appends : goal.returns-in_err-judge-clause-appends
+returns-in_err-judge-clause-appends c = let a = c.args in let s = a.store.now in let y = c.view-view.ensures in let p = c.requires in let e : c.from_residual.result ≡ Err c.in_err-judge.field-0.0 = search rules in rw e (all_refused (pair-tried s.log.now s.table.now s.mark a.first.now a.value.now a.second.now a.head.now a.body.now s.held p.0 p.1 _ _ (rw (y.log_is, y.table_is, y.mark_is) at c.find-a.ensures) (rw (y.log_is, y.table_is, y.mark_is) at c.find-b.ensures) (rw (y.log_is, y.mark_is) at c.room_in-room.ensures) c.room_after-left.ensures c.room_after-rest.ensures c.wants.ensures c.wants-2.ensures (rw (y.table_is, y.mark_is) at c.judge.ensures)) _ c.in_err-judge.was)
 
-pub returns-in-Ok : goal.returns-in-Ok
-returns-in-Ok c = let a = c.args in let p = c.requires in pair_done a.head.now a.body.now (pair-tried a.log.now a.table.now a.mark a.first.now a.value.now a.second.now a.head.now a.body.now p.0 p.1 p.2 _ _ c.find-a.ensures c.find-b.ensures c.room_in-room.ensures c.room_after-left.ensures c.room_after-rest.ensures c.wants.ensures c.wants-2.ensures c.judge.ensures) c.in-Ok.is _ _ c.find-a.ensures c.find-b.ensures _ _ c.append_set-mid.result c.append_set-mid.ensures _ c.behind-place.ensures p.2 _ _ c.append_set-last.result c.append_set-last.ensures
+pub returns-clause-appends : goal.returns-clause-appends
+returns-clause-appends c = let a = c.args in let s = a.store.now in let y = c.view-view.ensures in let p = c.requires in pair_done a.head.now a.body.now (pair-tried s.log.now s.table.now s.mark a.first.now a.value.now a.second.now a.head.now a.body.now s.held p.0 p.1 _ _ (rw (y.log_is, y.table_is, y.mark_is) at c.find-a.ensures) (rw (y.log_is, y.table_is, y.mark_is) at c.find-b.ensures) (rw (y.log_is, y.mark_is) at c.room_in-room.ensures) c.room_after-left.ensures c.room_after-rest.ensures c.wants.ensures c.wants-2.ensures (rw (y.table_is, y.mark_is) at c.judge.ensures)) c.in_ok-judge.was _ _ (rw (y.log_is, y.table_is, y.mark_is) at c.find-a.ensures) (rw (y.log_is, y.table_is, y.mark_is) at c.find-b.ensures) _ _ c.append_set.new.self.mark c.append_set.ensures.state _ c.behind-place.ensures p.1 _ _ c.append_set-2.new.self.mark c.append_set-2.ensures.state

@@ -8,5 +8,5 @@ returns-then-klen-gt-MAX_KEY c = size_key c.args.klen c.args.vlen c.if-klen-gt-M
 pub returns-then-vlen-gt-MAX_VALUE : goal.returns-then-vlen-gt-MAX_VALUE
 returns-then-vlen-gt-MAX_VALUE c = size_value c.args.klen c.args.vlen c.if-klen-gt-MAX_KEY.false c.if-vlen-gt-MAX_VALUE.true
 
-pub returns-else-vlen-gt-MAX_VALUE : goal.returns-else-vlen-gt-MAX_VALUE
-returns-else-vlen-gt-MAX_VALUE c = size_fine c.args.klen c.args.vlen c.if-klen-gt-MAX_KEY.false c.if-vlen-gt-MAX_VALUE.false
+pub returns : goal.returns
+returns c = size_fine c.args.klen c.args.vlen c.if-klen-gt-MAX_KEY.false c.if-vlen-gt-MAX_VALUE.false

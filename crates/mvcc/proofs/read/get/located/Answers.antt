@@ -3,12 +3,6 @@ use mathlib.Core.Path.{sym, ap}
 use Rattle.mvcc.specs.version.Seen.{located_seen}
 use Rattle.mvcc.proofs.read.get.located.Goals as goal
 
-pub returns-in-Hidden : goal.returns-in-Hidden
-returns-in-Hidden c = ap located_seen (sym c.in-Hidden.is)
-
-pub returns-in-Gone : goal.returns-in-Gone
-returns-in-Gone c = ap located_seen (sym c.in-Gone.is)
-
 pub returns-in-Bad : goal.returns-in-Bad
 returns-in-Bad c = ap located_seen (sym c.in-Bad.is)
 

@@ -1,5 +1,7 @@
 -- `get_unversioned`: 13, the key's length, and then the look-up of its code.
-use mathlib.Core.Path.{sym, ap}
+use borrow.Author.Rules.{rules}
+use Rattle.std.specs.Prelude.{Err}
+use mathlib.Core.Path.{sym, ◌≡◌, ap}
 use lib.Seq.{length-take-le}
 use Rattle.bitcask.proofs.engine.LookLaws.{found_stands}
 use Rattle.bitcask.specs.engine.Views.{marked}
@@ -8,7 +10,7 @@ use native.Mathlib.Omega.{arith}
 use Rattle.mvcc.proofs.unversioned.get.get_unversioned.Goals as goal
 
 pub returns-then-key-gt-MAX_KEY : goal.returns-then-key-gt-MAX_KEY
-returns-then-key-gt-MAX_KEY c = let a = c.args in unversioned-long a.log.now a.used a.table.now a.key.now c.enter.ensures.mark _ (ap marked c.in-Ok.is) c.if-key-gt-MAX_KEY.true
+returns-then-key-gt-MAX_KEY c = let a = c.args in unversioned-long a.log.now a.used a.table.now a.key.now c.enter.ensures.mark _ (ap marked c.in_ok-view.was) c.if-key-gt-MAX_KEY.true
 
 pub slice_bounds-bytes-end : goal.slice_bounds-bytes-end
 slice_bounds-bytes-end c = let w = c.unversioned_code-code.ensures in omega (arith, w.whole, w.within)
@@ -17,13 +19,13 @@ pub slice_bounds-find-end : goal.slice_bounds-find-end
 slice_bounds-find-end c = let w = c.unversioned_code-code.ensures in sym (length-take-le _ _ (omega (arith, w.whole, w.within)))
 
 pub value_place-requires : goal.value_place-requires
-value_place-requires c = found_stands _ _ c.find.ensures _ c.in-Ok-find.is
+value_place-requires c = found_stands _ _ c.find.ensures _ c.in-Ok.is
 
-pub returns-in-Err : goal.returns-in-Err
-returns-in-Err c = let a = c.args in unversioned-bad a.log.now a.used a.table.now a.key.now c.enter.ensures.mark _ (ap marked c.in-Err.is)
+pub returns-in_err-view : goal.returns-in_err-view
+returns-in_err-view c = let a = c.args in let e : c.from_residual.result ≡ Err c.in_err-view.field-0.0 = search rules in rw e (unversioned-bad a.log.now a.used a.table.now a.key.now c.enter.ensures.mark _ (ap marked c.in_err-view.was))
 
-pub returns-in-Ok-find : goal.returns-in-Ok-find
-returns-in-Ok-find c = let a = c.args in let w = c.enter.ensures.view _ c.in-Ok.is in unversioned-at a.log.now a.used a.table.now a.key.now c.enter.ensures.mark _ (ap marked c.in-Ok.is) c.if-key-gt-MAX_KEY.false c.unversioned_code-code.ensures _ (rw (← w.log_is, ← w.table_is) c.find.ensures) _ c.in-Ok-find.is (rw (← w.log_is, ← w.table_is) c.value_place.ensures.0)
+pub returns : goal.returns
+returns c = let a = c.args in let y = c.enter.ensures.view _ c.in_ok-view.was in unversioned-at a.log.now a.used a.table.now a.key.now c.enter.ensures.mark _ (ap marked c.in_ok-view.was) c.if-key-gt-MAX_KEY.false c.unversioned_code-code.ensures _ (rw (y.log_is, y.table_is) at c.find.ensures) _ c.in-Ok.is (rw (y.log_is, y.table_is) at c.value_place.ensures.0)
 
-pub returns-in-Err-find : goal.returns-in-Err-find
-returns-in-Err-find c = let a = c.args in let w = c.enter.ensures.view _ c.in-Ok.is in unversioned_absent a.log.now a.used a.table.now a.key.now c.enter.ensures.mark _ (ap marked c.in-Ok.is) c.if-key-gt-MAX_KEY.false c.unversioned_code-code.ensures _ (rw (← w.log_is, ← w.table_is) c.find.ensures) _ c.in-Err-find.is
+pub returns-in_default : goal.returns-in_default
+returns-in_default c = let a = c.args in let y = c.enter.ensures.view _ c.in_ok-view.was in unversioned_absent a.log.now a.used a.table.now a.key.now c.enter.ensures.mark _ (ap marked c.in_ok-view.was) c.if-key-gt-MAX_KEY.false c.unversioned_code-code.ensures _ (rw (y.log_is, y.table_is) at c.find.ensures) _ c.in_default.is

@@ -1,13 +1,17 @@
 -- `set_unversioned`: 13, the lengths, and one set by the key's code.
-use mathlib.Core.Path.{sym, ap}
+use borrow.Author.Rules.{rules}
+use Rattle.std.specs.Prelude.{Err}
+use mathlib.Core.Path.{sym, ◌≡◌, ap}
 use lib.Seq.{length-take-le}
 use Rattle.bitcask.specs.engine.Views.{marked}
+use Rattle.bitcask.proofs.engine.ViewLaws.{lent_back}
+use Rattle.mvcc.specs.unversioned.Promises.{SetsPlain}
 use Rattle.mvcc.proofs.unversioned.SetLaws.{plain_unfit, plain_held, plain_refused, plain_short, plain_tried}
 use native.Mathlib.Omega.{arith}
 use Rattle.mvcc.proofs.unversioned.set.set_unversioned.Goals as goal
 
 pub unversioned_code-code-requires : goal.unversioned_code-code-requires
-unversioned_code-code-requires c = let a = c.args in plain_short a.log.now a.used a.table.now a.key.now a.value.now c.enter.ensures.mark _ (ap marked c.in-Ok.is) _ c.sized.ensures c.in-Ok-sized.is
+unversioned_code-code-requires c = let a = c.args in plain_short a.log.now a.used a.table.now a.key.now a.value.now c.enter.ensures.mark _ (ap marked c.in_ok-view.was) _ c.sized.ensures c.in_ok-sized.was
 
 pub slice_bounds-bytes-end : goal.slice_bounds-bytes-end
 slice_bounds-bytes-end c = let w = c.unversioned_code-code.ensures in omega (arith, w.whole, w.within)
@@ -16,19 +20,13 @@ pub slice_bounds-append_one-end : goal.slice_bounds-append_one-end
 slice_bounds-append_one-end c = let w = c.unversioned_code-code.ensures in sym (length-take-le _ _ (omega (arith, w.whole, w.within)))
 
 pub append_one-requires : goal.append_one-requires
-append_one-requires c = let a = c.args in plain_held a.log.now a.used a.table.now a.key.now a.value.now c.enter.ensures.mark _ (ap marked c.in-Ok.is) _ c.sized.ensures
+append_one-requires c = let a = c.args in (plain_held a.log.now a.used a.table.now a.key.now a.value.now c.enter.ensures.mark _ (ap marked c.in_ok-view.was) _ c.sized.ensures).1
 
-pub returns-in-Err : goal.returns-in-Err
-returns-in-Err c = let a = c.args in plain_unfit a.log.now a.used a.table.now a.key.now a.value.now c.enter.ensures.mark _ (ap marked c.in-Err.is)
+pub returns-in_err-view : goal.returns-in_err-view
+returns-in_err-view c = let a = c.args in let e : c.from_residual.result ≡ Err c.in_err-view.field-0.0 = search rules in rw e (plain_unfit a.log.now a.used a.table.now a.key.now a.value.now c.enter.ensures.mark _ (ap marked c.in_err-view.was))
 
-pub returns-in-Err-sized : goal.returns-in-Err-sized
-returns-in-Err-sized c = let a = c.args in plain_refused a.log.now a.used a.table.now a.key.now a.value.now c.enter.ensures.mark _ (ap marked c.in-Ok.is) _ c.sized.ensures _ c.in-Err-sized.is
+pub returns-in_err-sized : goal.returns-in_err-sized
+returns-in_err-sized c = let a = c.args in let e : c.from_residual-in_err-sized.result ≡ Err c.in_err-sized.field-0.0 = search rules in rw e (plain_refused a.log.now a.used a.table.now a.key.now a.value.now c.enter.ensures.mark _ (ap marked c.in_ok-view.was) _ c.sized.ensures _ c.in_err-sized.was)
 
-pub shape_of-log-in-Ok-sized : goal.shape_of-log-in-Ok-sized
-shape_of-log-in-Ok-sized c = c.append_one.auto.log
-
-pub shape_of-table-in-Ok-sized : goal.shape_of-table-in-Ok-sized
-shape_of-table-in-Ok-sized c = c.append_one.auto.table
-
-pub returns-in-Ok-sized : goal.returns-in-Ok-sized
-returns-in-Ok-sized c = let a = c.args in plain_tried a.log.now a.used a.table.now a.key.now a.value.now c.enter.ensures.mark _ (ap marked c.in-Ok.is) _ c.sized.ensures c.in-Ok-sized.is _ c.unversioned_code-code.ensures _ _ _ c.append_one.ensures
+pub returns : goal.returns
+returns c = let a = c.args in lent_back (SetsPlain a.log.now a.used.len a.table.now a.key.now a.value.now c.append_one.result) (plain_tried a.log.now a.used a.table.now a.key.now a.value.now c.enter.ensures.mark _ (ap marked c.in_ok-view.was) _ c.sized.ensures c.in_ok-sized.was _ c.unversioned_code-code.ensures _ _ _ c.append_one.ensures.appends) (search rules) (search rules)
