@@ -1,12 +1,13 @@
 -- Laws of the commands: the call that each makes is a step of the world, and its record stands at the front of the lent buffer.
 -- Assumes nothing.
 use Prim.Native.Nat.{ℕ}
-use mathlib.Core.Path.{◌≡◌, sym, ◌∙◌, subst}
+use mathlib.Core.Path.{◌≡◌, sym, ap, ◌∙◌, subst}
 use mathlib.Core.Bool.{Bool}
 use mathlib.Core.List.{List}
 use lib.ListN.{length}
 use borrow.Author.Tests.{eq-eqb, ne_eqb}
-use Rattle.std.specs.Prelude.{Result, None, Some}
+use Rattle.std.specs.Prelude.{Result, Ok, Err, None, Some}
+use Rattle.std.specs.Result.{result_unwrap_or, is_ok}
 use Rattle.bitcask.specs.declared.request.Used.{Used}
 use Rattle.keycode.specs.declared.refusal.Refusal.{Refusal}
 use Rattle.keycode.specs.declared.parts.Part.{Part}
@@ -70,6 +71,15 @@ module _ (log : List ℕ) (used : ℕ) (t : List ℕ) (c : ℕ) where
     rollback_done n b = rw (ne_eqb c 8 n) (rolling_back b)
 
 -- the used length after commands 1 to 3
+-- what `unwrap_or` and `is_ok` give
+pub used-after : (a : Result Used Refusal) (used : Used) {u : Used} → u ≡ result_unwrap_or a used → u.len ≡ used_by a used.len
+used-after (Ok x) used e = ap (λ (y : Used). y.len) e
+used-after (Err r) used e = ap (λ (y : Used). y.len) e
+
+pub done-is : (a : Result Used Refusal) {b : Bool} → b ≡ is_ok a → b ≡ is_done a
+done-is (Ok x) e = e
+done-is (Err r) e = e
+
 pub used-writing : (c : ℕ) (a : Result Used Refusal) (used : ℕ) {u : ℕ} → c ≡ 1 → u ≡ used_by a used → u ≡ start_used c a used
 unfolding start_used
 used-writing c a used e f = f ∙ rw (eq-eqb c 1 e)

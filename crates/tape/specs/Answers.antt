@@ -1,4 +1,4 @@
--- The answer records of a tape, as bytes, of what the calls answered. Document 01, 'Tape'. Assumes nothing.
+-- The answer records of a tape, as bytes, of what the calls answered. Assumes nothing.
 use Rattle.bitcask.specs.declared.request.Used.{Used}
 use Rattle.bitcask.specs.declared.answers.KeyValue.{KeyValue}
 use Rattle.bitcask.specs.declared.report.Counts.{Counts}

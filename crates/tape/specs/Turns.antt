@@ -1,5 +1,5 @@
 -- One record of a tape and its answers. What the store does is a step of its world (mvcc): the definition that the `ensures` of the call
--- cites, from the world before to the world after. Document 01, 'Tape'. Assumes nothing.
+-- cites, from the world before to the world after. Assumes nothing.
 use Rattle.bitcask.specs.declared.request.Used.{Used}
 use Rattle.keycode.specs.declared.refusal.Refusal.{Refusal}
 use Rattle.keycode.specs.declared.parts.Part.{Part}

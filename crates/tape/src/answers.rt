@@ -14,14 +14,12 @@ use bitcask::{Counts, Used, part};
 use keycode::{Part, Refusal, number_of};
 use mvcc::Handle;
 
-// Done, with a number.
+// Number 0, done, with a number of its own.
 pub(crate) fn put_word(out: &mut [u8], at: usize, command: u8, w: u64)
     requires { at + record_len ≤ length out.old }
     ensures { out.new ≡ put out.old at (laid 0 command w [] []) }
 {
-    let key = [0u8; 1];
-    let value = [0u8; 1];
-    put_record(out, at, 0, command, w, &key[..0], &value[..0]);
+    put_record(out, at, 0, command, w, &[], &[]);
 }
 
 // A refusal.
@@ -29,8 +27,7 @@ pub(crate) fn put_refusal(out: &mut [u8], at: usize, r: Refusal, command: u8)
     requires { at + record_len ≤ length out.old }
     ensures { out.new ≡ put out.old at (plainly (number_of r) command) }
 {
-    let n = number_of(r);
-    put_plain(out, at, n, command);
+    put_plain(out, at, number_of(r), command);
 }
 
 // The answer of a begin.
@@ -54,9 +51,8 @@ pub(crate) fn fill_given(
     requires { (length slots.old ≡ all_words) × (slot < 16) }
     ensures { (slots.new ≡ filled_with slots.old slot answer handle) × (length handle.set ≡ max_open) }
 {
-    match answer {
-        Ok(_) => fill(slots, slot, handle),
-        Err(_) => {}
+    if answer.is_ok() {
+        fill(slots, slot, handle);
     }
 }
 
@@ -69,8 +65,7 @@ fn answer_value(out: &mut [u8], value: &[u8])
         put_plain(out, 0, 13, 4);
         return;
     }
-    let key = [0u8; 1];
-    put_record(out, 0, 0, 4, 0, &key[..0], value);
+    put_record(out, 0, 0, 4, 0, &[], value);
 }
 
 // The answer of a get.
@@ -95,13 +90,13 @@ pub(crate) fn answer_changed(out: &mut [u8], command: u8, answer: Result<Used, R
     }
 }
 
+// A transaction that has ended leaves its slot; one that a refusal kept open stays there.
 pub(crate) fn empty_ended(slots: &mut [u64], slot: usize, answer: Result<Used, Refusal>)
     requires { (length slots.old ≡ all_words) × (slot < 16) }
     ensures { slots.new ≡ emptied_by slots.old slot answer }
 {
-    match answer {
-        Ok(_) => empty(slots, slot),
-        Err(_) => {}
+    if answer.is_ok() {
+        empty(slots, slot);
     }
 }
 

@@ -11,24 +11,24 @@ use crate::answers::{
 };
 use crate::format::Request;
 use crate::format::layout::RECORD;
-use crate::state::{Turn, is_done, used_after};
+use crate::state::Turn;
 use bitcask::{Used, compact, status};
 use keycode::Refusal;
 use mvcc::{
     Begun, Handle, begin, begin_as_of, begin_read_only, commit, delete, get, rollback, set,
 };
 
-// The call of commands 1 to 3.
+// The call of commands 1 to 3: begin, begin read-only, begin as of a version.
 fn begun(log: &mut [u8], used: Used, table: &mut [u32], command: u8, version: u64) -> Begun
     ensures { Step (world_of log.old used.len table.old) (start_call command version result) (world_of log.new (start_used command result.answer used.len) table.new) }
 {
     if command == 1 {
-        return begin(log, used, table);
+        begin(log, used, table)
+    } else if command == 2 {
+        begin_read_only(log, used, table)
+    } else {
+        begin_as_of(log, used, table, version)
     }
-    if command == 2 {
-        return begin_read_only(log, used, table);
-    }
-    begin_as_of(log, used, table, version)
 }
 
 // The used length after it: only a begin that writes changes it.
@@ -36,11 +36,13 @@ fn started_used(command: u8, answer: Result<Used, Refusal>, used: Used) -> Used
     ensures { result.len ≡ start_used command answer used.len }
 {
     if command == 1 {
-        return used_after(answer, used);
+        answer.unwrap_or(used)
+    } else {
+        used
     }
-    used
 }
 
+// Commands 1 to 3. Gives the used length after it.
 pub(crate) fn start(
     log: &mut [u8],
     used: Used,
@@ -52,14 +54,13 @@ pub(crate) fn start(
     requires { (record_len ≤ length out.old) × (length slots.old ≡ all_words) × (q.slot < 16) }
     ensures { Lays (Started (world_of log.old used.len table.old) slots.old q (world_of log.new result.len table.new) slots.new) out.old record_len out.new }
 {
-    let b = begun(log, used, table, q.command, q.version);
-    let answer = b.answer;
-    let handle = b.handle;
+    let Begun { answer, handle } = begun(log, used, table, q.command, q.version);
     fill_given(slots, q.slot, answer, handle);
     answer_given(out, q.command, answer, handle.version);
     started_used(q.command, answer, used)
 }
 
+// Command 4: get.
 pub(crate) fn look(
     log: &[u8],
     used: Used,
@@ -71,11 +72,10 @@ pub(crate) fn look(
     requires { record_len ≤ length out.old }
     ensures { Lays (Looked (world_of log.now used.len table.now) handle key.now) out.old record_len out.new }
 {
-    let answer = get(log, used, table, handle, key);
-    answer_got(out, log, answer);
+    answer_got(out, log, get(log, used, table, handle, key));
 }
 
-// The call of commands 5 and 6.
+// The call of commands 5 and 6: set, delete.
 fn changed(
     log: &mut [u8],
     used: Used,
@@ -88,11 +88,13 @@ fn changed(
     ensures { Step (world_of log.old used.len table.old) (write_call command handle key.now value.now result) (world_of log.new (used_by result used.len) table.new) }
 {
     if command == 5 {
-        return set(log, used, table, handle, key, value);
+        set(log, used, table, handle, key, value)
+    } else {
+        delete(log, used, table, handle, key)
     }
-    delete(log, used, table, handle, key)
 }
 
+// Commands 5 and 6. Gives the used length after it.
 pub(crate) fn write(
     log: &mut [u8],
     used: Used,
@@ -108,10 +110,10 @@ pub(crate) fn write(
 {
     let answer = changed(log, used, table, handle, command, key, value);
     answer_changed(out, command, answer);
-    used_after(answer, used)
+    answer.unwrap_or(used)
 }
 
-// The call of commands 8 and 9.
+// The call of commands 8 and 9: commit, rollback.
 fn ended(
     log: &mut [u8],
     used: Used,
@@ -122,11 +124,13 @@ fn ended(
     ensures { Step (world_of log.old used.len table.old) (end_call command handle result) (world_of log.new (used_by result used.len) table.new) }
 {
     if command == 8 {
-        return commit(log, used, table, handle);
+        commit(log, used, table, handle)
+    } else {
+        rollback(log, used, table, handle)
     }
-    rollback(log, used, table, handle)
 }
 
+// Commands 8 and 9. Gives the used length after it.
 pub(crate) fn end(
     log: &mut [u8],
     used: Used,
@@ -142,10 +146,10 @@ pub(crate) fn end(
     let answer = ended(log, used, table, handle, q.command);
     empty_ended(slots, q.slot, answer);
     answer_changed(out, q.command, answer);
-    used_after(answer, used)
+    answer.unwrap_or(used)
 }
 
-// Command 10: done, the buffer beside the log is the log.
+// Command 10, a compaction: done, the buffer beside the log is the log.
 pub(crate) fn tidy(
     log: &[u8],
     used: Used,
@@ -159,17 +163,16 @@ pub(crate) fn tidy(
     let answer = compact(log, used, table, spare);
     answer_used(out, answer);
     Turn {
-        used: used_after(answer, used),
-        other: is_done(answer),
+        used: answer.unwrap_or(used),
+        other: answer.is_ok(),
         len: RECORD,
     }
 }
 
-// Command 11.
+// Command 11: status.
 pub(crate) fn tell(log: &[u8], used: Used, table: &[u32], out: &mut [u8])
     requires { record_len ≤ length out.old }
     ensures { Lays (Told (world_of log.now used.len table.now)) out.old record_len out.new }
 {
-    let answer = status(log, used, table);
-    answer_counted(out, answer);
+    answer_counted(out, status(log, used, table));
 }

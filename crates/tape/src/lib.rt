@@ -1,4 +1,4 @@
-// The tape: one record in, its answers out, over lent buffers. Document 01, 'Tape'. toydb has none; the calls are those of its
+// The tape: one record in, its answers out, over lent buffers. toydb has none; the calls are those of its
 // storage/mvcc.rs and bitcask.rs.
 #![tactic(auto)]
 

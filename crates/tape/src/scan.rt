@@ -15,8 +15,8 @@ use bitcask::{KeyValue, Used, part};
 use keycode::{Part, Refusal, number_of, unescape};
 use mvcc::{Handle, scan_prefix_step};
 
-// The pair of a key, the first bytes of those that are kept, and a value: 13 in its place where an answer has no room for the value, or
-// the lent buffer none for a record behind this one.
+// The pair of a key, the first bytes of those that are kept, and a value. Some: how long the key is; None: 13 stands in its place, since
+// an answer has no room for the value, or the lent buffer none for a record behind this one.
 fn show_pair(out: &mut [u8], n: usize, kept: &[u8], klen: usize, value: &[u8]) -> Option<usize>
     requires { (record_len * n + record_len ≤ length out.old) × (klen ≤ length kept.now) × (klen ≤ key_room) }
     ensures { ShowsBy (pair_if (leb (length value.now) value_room) (ltb (n + 1) (length out.old / record_len)) (take klen kept.now) value.now) n out.old result kept.now out.new }
@@ -34,7 +34,7 @@ fn show_pair(out: &mut [u8], n: usize, kept: &[u8], klen: usize, value: &[u8]) -
     Some(klen)
 }
 
-// The record behind the last pair.
+// The record behind the last pair: how many there are, or a refusal in its place.
 fn show_end(out: &mut [u8], n: usize, r: Refusal)
     requires { record_len * n + record_len ≤ length out.old }
     ensures { out.new ≡ put out.old (record_len * n) (end_bytes n (number_of r)) }
@@ -48,7 +48,7 @@ fn show_end(out: &mut [u8], n: usize, r: Refusal)
     put_plain(out, at, number, 7);
 }
 
-// A key and a value of the log.
+// A key and a value of the log. Some: how long the key is, which is kept unescaped; None: a refusal ends the scan.
 fn show_next(
     log: &[u8],
     key: Part,
@@ -69,7 +69,7 @@ fn show_next(
     }
 }
 
-// One step behind the key that is kept, and what it shows.
+// One step behind the key that is kept, and what it shows. Some: how long the key of its pair is; None: it was the last record.
 fn show_step(
     log: &[u8],
     used: Used,
@@ -94,6 +94,7 @@ fn show_step(
     }
 }
 
+// Every step; gives how many bytes of answers were laid.
 fn show_all(
     log: &[u8],
     used: Used,
@@ -108,17 +109,11 @@ fn show_all(
 {
     let mut klen = 0;
     let mut n = 0;
-    loop {
-        match show_step(log, used, table, handle, prefix, kept, klen, out, n) {
-            Some(k) => {
-                klen = k;
-                n += 1;
-            }
-            None => {
-                return RECORD * (n + 1);
-            }
-        }
+    while let Some(k) = show_step(log, used, table, handle, prefix, kept, klen, out, n) {
+        klen = k;
+        n += 1;
     }
+    RECORD * (n + 1)
 }
 
 pub(crate) fn scan(

@@ -1,11 +1,9 @@
 // What goes from one record to the next by value.
 ghost use Rattle.std.specs.Prelude.{◌≡◌, false};
-ghost use Rattle.mvcc.specs.world.Steps.{used_by, is_done};
 ghost use Rattle.tape.specs.format.Layout.{record_len};
 
 use crate::format::layout::RECORD;
 use bitcask::Used;
-use keycode::Refusal;
 
 // The used length, whether the second of the two lent buffers is the log, and how many bytes of answers were laid.
 #[derive(Clone, Copy)]
@@ -23,24 +21,5 @@ pub(crate) fn one_answer(used: Used) -> Turn
         used,
         other: false,
         len: RECORD,
-    }
-}
-
-// The used length that an answer leaves.
-pub(crate) fn used_after(answer: Result<Used, Refusal>, used: Used) -> Used
-    ensures { result.len ≡ used_by answer used.len }
-{
-    match answer {
-        Ok(u) => u,
-        Err(_) => used,
-    }
-}
-
-pub(crate) fn is_done(answer: Result<Used, Refusal>) -> bool
-    ensures { result ≡ is_done answer }
-{
-    match answer {
-        Ok(_) => true,
-        Err(_) => false,
     }
 }

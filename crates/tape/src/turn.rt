@@ -52,6 +52,7 @@ fn carry_handle(
     one_answer(u)
 }
 
+// A command that a record names.
 fn carry(
     log: &mut [u8],
     used: Used,
@@ -81,6 +82,7 @@ fn carry(
     one_answer(used)
 }
 
+// Whether a command finds the slot as it must be: 1 to 3 an empty one, 4 to 9 a filled one.
 fn slot_fits(command: u8, full: bool) -> bool
     ensures { result ≡ slot_fits command full }
 {
@@ -90,6 +92,7 @@ fn slot_fits(command: u8, full: bool) -> bool
     if command <= 9 { full } else { true }
 }
 
+// Whether a record is laid out as it must be, and its slot as the command needs it.
 fn admitted(bytes: &[u8], slots: &[u64]) -> bool
     requires { (length bytes.now ≡ record_len) × (length slots.now ≡ all_words) }
     ensures { result ≡ admitted_by bytes.now slots.now }
@@ -131,7 +134,7 @@ fn turn(
 }
 
 // The next record of a tape. The log is the first of the two buffers, or where `other` is told, the second; the answer says which it is
-// from then on. 13 where the slots are not sixteen or an answer has no room.
+// from then on. Err: BadRequest, the slots are not sixteen or an answer has no room, and nothing changes.
 pub fn take(
     first: &mut [u8],
     second: &mut [u8],
@@ -144,21 +147,15 @@ pub fn take(
 ) -> Result<Turn, Refusal>
     ensures { Takes (record { first = first.old; second = second.old; table = table.old; slots = slots.old; out = out.old }) used.len other bytes.now result (record { first = first.new; second = second.new; table = table.new; slots = slots.new; out = out.new }) }
 {
-    if out.len() < RECORD {
-        return Err(Refusal::BadRequest);
-    }
-    if slots.len() != ALL_WORDS {
+    if out.len() < RECORD || slots.len() != ALL_WORDS {
         return Err(Refusal::BadRequest);
     }
     if other {
         let t = turn(second, used, first, table, slots, bytes, out);
-        let u = t.used;
         return Ok(Turn {
-            used: u,
             other: !t.other,
-            len: t.len,
+            ..t
         });
     }
-    let t = turn(first, used, second, table, slots, bytes, out);
-    Ok(t)
+    Ok(turn(first, used, second, table, slots, bytes, out))
 }

@@ -1,15 +1,15 @@
 -- Laws of a record's 128 bytes: their number, the zeros among them, and how a writer lays them piece by piece. Assumes nothing.
-use Prim.Native.Nat.{ℕ, suc, ◌+◌, ◌-◌, ◌≤◌, ◌<◌}
-use mathlib.Core.Path.{◌≡◌, refl, sym, ◌∙◌}
+use Prim.Native.Nat.{ℕ, ◌+◌, ◌-◌, ◌≤◌}
+use mathlib.Core.Path.{◌≡◌, refl, sym, ap, ◌∙◌}
 use mathlib.Core.List.{List, [], ◌∷◌, ◌++◌, append_assoc, append-nil}
-use native.Mathlib.Numerals.{towards_suc}
 use native.Mathlib.Omega.{arith}
-use lib.ListN.{length, take, drop, set, length-append, length-replicate}
-use lib.Seq.{take_at, drop_at, sets-eq}
+use lib.ListN.{length, take, drop, length-append, length-drop, length-replicate}
+use lib.Seq.{take_at, drop_at, drop-drop, length-take-le}
+use borrow.Rule.Slice.PartMut.{put_mid}
 use Rattle.keycode.specs.Number.{be}
 use Rattle.keycode.specs.Buffer.{put}
 use Rattle.keycode.proofs.NumberLaws.{length-be}
-use Rattle.keycode.proofs.BufferLaws.{Laying, lay_start, lay-more, lay_end, lay-room, set-put}
+use Rattle.keycode.proofs.BufferLaws.{length-put, lay_start, lay-more, lay_end}
 use Rattle.tape.specs.format.Layout.{record_len, key_at, value_at, key_room, value_room, zeros, padded, laid, plainly}
 
 pub padded-long : (room : ℕ) (xs : List ℕ) → length xs ≤ room → length (padded room xs) ≡ room
@@ -51,35 +51,19 @@ module _ (a b w : ℕ) (key value : List ℕ) (k : length key ≤ key_room) wher
       let l : length p ≡ value_at + length value = simp (length-append, length-be, length-replicate) (omega arith) in
       rw (e, drop_at p z (value_at + length value) l)
 
--- ---- zeros laid one by one
-
-module _ (n i : ℕ) {d out : List ℕ} {at : ℕ} (w : Laying d at (zeros n) out (at + i) (zeros (n - i))) where
-  module _ (h : i < n) where
-    next-zero : zeros (n - i) ≡ (0 ∷ []) ++ zeros (n - (i + 1))
-    next-zero = let e : n - i ≡ suc (n - (i + 1)) = omega arith in rw e
-
-    pub zero_room : at + i < length out
-    zero_room = omega (arith, lay-room w (0 ∷ []) (zeros (n - (i + 1))) next-zero)
-
-    pub zero_turn : Laying d at (zeros n) (set out (at + i) 0) (at + (i + 1)) (zeros (n - (i + 1)))
-    zero_turn = lay-more w (0 ∷ []) (zeros (n - (i + 1))) (set out (at + i) 0) (at + (i + 1)) next-zero (omega arith) (set-put out (at + i) 0 zero_room)
-
-  pub zero_end : n ≤ i → out ≡ put d at (zeros n)
-  zero_end h = let e : n - i ≡ 0 = omega arith in (lay_end w (rw e)).1
-
-pub zero_start : (n : ℕ) (d : List ℕ) (at : ℕ) → at + n ≤ length d → Laying d at (zeros n) d (at + 0) (zeros (n - 0))
-zero_start n d at h =
-    let p : at + 0 ≡ at = omega arith in
-    let q : n - 0 ≡ n = omega arith in
-    rw (p, q) (lay_start d at (zeros n) (simp length-replicate h))
-
 -- ---- the pieces of a record
 
-pub four_laid : (d : List ℕ) (at a b e f : ℕ) → at + 4 ≤ length d → set (set (set (set d at a) (at + 1) b) (at + 2) e) (at + 3) f ≡ put d at (a ∷ b ∷ e ∷ f ∷ [])
+-- a part of a buffer written anew
+pub mid-laid : (d : List ℕ) (at n : ℕ) {xs ys : List ℕ} → ys ≡ xs → length xs ≡ n → put_mid at n d ys ≡ put d at xs
 unfolding put
-four_laid d at a b e f h = simp towards_suc (simp towards_suc at (sets-eq (a ∷ b ∷ e ∷ f ∷ []) d at h))
+mid-laid d at n {xs} e h = rw (e, ← h, drop-drop (length xs) at d) (sym (append_assoc (take at d) xs (drop (at + length xs) d)))
 
-pub padded-laid : (d : List ℕ) (at room : ℕ) (xs : List ℕ) {o : ℕ} {d₁ d₂ : List ℕ} → length xs ≤ room → at + room ≤ length d
+pub mid-zeros : (d : List ℕ) (at n : ℕ) {ys : List ℕ} → ys ≡ zeros (length (take n (drop at d))) → at + n ≤ length d → put_mid at n d ys ≡ put d at (zeros n)
+mid-zeros d at n e h =
+    let l : length (take n (drop at d)) ≡ n = length-take-le n (drop at d) (omega (arith, length-drop at d)) in
+    mid-laid d at n (e ∙ ap zeros l) (length-replicate n 0)
+
+padded-laid : (d : List ℕ) (at room : ℕ) (xs : List ℕ) {o : ℕ} {d₁ d₂ : List ℕ} → length xs ≤ room → at + room ≤ length d
     → o ≡ at + length xs → d₁ ≡ put d at xs → d₂ ≡ put d₁ o (zeros (room - length xs)) → d₂ ≡ put d at (padded room xs)
 unfolding padded
 padded-laid d at room xs {o} {d₁} {d₂} k h q e f =
@@ -87,6 +71,13 @@ padded-laid d at room xs {o} {d₁} {d₂} k h q e f =
     let n : length (xs ++ rest) ≡ room = simp (length-append, length-replicate) (omega arith) in
     let w₁ = lay-more (lay_start d at (xs ++ rest) (omega arith)) xs rest d₁ o refl q e in
     (lay_end (lay-more w₁ rest [] d₂ (o + length rest) (sym (append-nil rest)) refl f) refl).1
+
+pub padded-filled : (d : List ℕ) (at room : ℕ) (xs : List ℕ) {d₁ ys : List ℕ} → length xs ≤ room → at + room ≤ length d → d₁ ≡ put d at xs
+    → ys ≡ zeros (length (take (at + room - (at + length xs)) (drop (at + length xs) d₁))) → put_mid (at + length xs) (at + room - (at + length xs)) d₁ ys ≡ put d at (padded room xs)
+padded-filled d at room xs {d₁} k h e f =
+    let n : at + room - (at + length xs) ≡ room - length xs = omega arith in
+    let l : length d₁ ≡ length d = ap length e ∙ length-put d at xs (omega arith) in
+    padded-laid d at room xs k h refl e (mid-zeros d₁ (at + length xs) (at + room - (at + length xs)) f (omega arith) ∙ ap (λ (m : ℕ). put d₁ (at + length xs) (zeros m)) n)
 
 module _ (d : List ℕ) (at a b w : ℕ) (key value : List ℕ) (room : at + record_len ≤ length d) (k : length key ≤ key_room) (v : length value ≤ value_room) where
   pub record_laid : {d₁ d₂ d₃ d₄ : List ℕ} → d₁ ≡ put d at (a ∷ b ∷ length key ∷ length value ∷ []) → d₂ ≡ put d₁ (at + 4) (be 8 w)

@@ -4,12 +4,13 @@ use Prim.Native.Nat.{ℕ, zero, suc, ◌+◌, ◌-◌, ◌^◌, ◌≤◌, ◌<�
 use mathlib.Core.Path.{◌≡◌, refl, sym, ap, ◌∙◌}
 use mathlib.Core.Bool.{Bool, true, false, not}
 use mathlib.Core.List.{List, [], ◌∷◌, ◌++◌, append-nil}
-use native.Mathlib.Numerals.{add-one}
 use native.Mathlib.Omega.{arith}
 use lib.Dec.{eqb, leb}
 use lib.ListN.{length, take, drop, get_or, drop_of_length-le, length-take, length-drop, take-append-drop}
-use lib.Seq.{drop-cons, drop-drop, take_all, take_at, take-add, length-take-le}
+use lib.Seq.{drop-drop, take_all, take_at, take-add, length-take-le}
 use borrow.Author.Tests.{le-leb, lt-leb, leb-true, eqb-true, eq-eqb, ne_eqb, not-true, not-false}
+use Rattle.std.specs.List.{list_all}
+use Rattle.std.specs.Prelude.{◌&&◌}
 use Rattle.keycode.specs.Tests.{pick}
 use Rattle.keycode.specs.Number.{be, num}
 use Rattle.keycode.proofs.NumberLaws.{Bytes, bytes_take, bytes_drop, length-be, num_any, be-num}
@@ -26,7 +27,7 @@ fields_read r e f g h = λ j. record { command = get_or r 0 0; slot = e j; klen 
 -- ---- what a command uses
 
 module _ (low high c : ℕ) where
-  pub between-below : c < low → false ≡ between low high c
+  pub between-below : c < low → leb low c ≡ between low high c
   unfolding between
   between-below h = rw (lt-leb low c h)
 
@@ -96,19 +97,14 @@ module _ (q : Request) {b : Bool} (eb : b ≡ between 1 11 q.command) where
 
 -- ---- zeros
 
-module _ (s : List ℕ) (i : ℕ) (inv : all_zero s ≡ all_zero (drop i s)) where
-  pub zero-all : length s ≤ i → true ≡ all_zero s
-  unfolding all_zero
-  zero-all h = sym (inv ∙ rw (drop_of_length-le s))
+and_pick : (b : Bool) {p q : Bool} → p ≡ q → (b && p) ≡ pick b q false
+and_pick true e = e
+and_pick false e = refl
 
-  module _ (h : i < length s) where
-    pub zero_not : (get_or s i 0 ≡ 0 → ⊥) → false ≡ all_zero s
-    unfolding all_zero
-    zero_not n = sym (inv ∙ rw (drop-cons s i 0, ne_eqb (get_or s i 0) 0 n))
-
-    pub zero-next : get_or s i 0 ≡ 0 → all_zero s ≡ all_zero (drop (i + 1) s)
-    unfolding all_zero
-    zero-next e = inv ∙ rw (add-one, drop-cons s i 0, eq-eqb (get_or s i 0) 0 e)
+pub zeros-all : (xs : List ℕ) → list_all (λ (x : ℕ). eqb x 0) xs ≡ all_zero xs
+unfolding all_zero
+zeros-all [] = refl
+zeros-all (x ∷ xs) = and_pick (eqb x 0) (zeros-all xs)
 
 module _ (r : List ℕ) (klen vlen : ℕ) {b : Bool} (e : b ≡ all_zero (take (value_at - (key_at + klen)) (drop (key_at + klen) r))) where
   pub cleared_not : b ≡ false → b ≡ cleared r klen vlen

@@ -3,20 +3,22 @@
 use Prim.Native.Nat.{ℕ, zero, suc, ◌+◌, ◌-◌, ◌*◌, ◌≤◌, ◌<◌}
 use mathlib.Core.Path.{◌≡◌, refl, sym, ap, ◌∙◌}
 use mathlib.Core.Bool.{Bool, true, false, not}
-use mathlib.Core.List.{List, [], ◌∷◌, ◌++◌, append_assoc, append-nil}
+use mathlib.Core.List.{List, [], ◌∷◌, ◌++◌, append_assoc}
 use native.Mathlib.Decide.{dec_lt}
 use native.Mathlib.Nat.{add-zero}
 use native.Mathlib.Numerals.{towards_suc}
 use native.Mathlib.Omega.{arith}
 use lib.Dec.{eqb}
-use lib.ListN.{length, take, drop, get_or, set, length-append, length-take, length-drop}
+use lib.ListN.{length, take, drop, get_or, set, length-set, length-append, length-drop}
 use lib.Seq.{sets-eq, take_all, take-take, take_at, drop_at, drop-drop, drop-append-add, length-take-le, get_or-take, get_or-drop}
 use Rattle.keycode.specs.Buffer.{put}
 use Rattle.keycode.specs.Limits.{max_open}
-use Rattle.keycode.proofs.BufferLaws.{length-put, put_front, put-put}
+use Rattle.keycode.proofs.BufferLaws.{length-put, put-put}
 use Rattle.bitcask.proofs.entry.EntryLaws.{laid-before}
 use Rattle.mvcc.specs.declared.handle.Handle.{Handle}
 use Rattle.tape.specs.format.Layout.{zeros}
+use Rattle.tape.proofs.format.LayoutLaws.{mid-laid, mid-zeros}
+use borrow.Rule.Slice.PartMut.{put_mid}
 use Rattle.tape.specs.format.Slots.{slot_words, all_words, filled, handle_at, kind_of, words_of, fill, empty}
 
 three_laid : (d : List ℕ) (at a b c : ℕ) → at + 3 ≤ length d → set (set (set d at a) (at + 1) b) (at + 2) c ≡ put d at (a ∷ b ∷ c ∷ [])
@@ -24,25 +26,34 @@ unfolding put
 three_laid d at a b c h = simp towards_suc (simp towards_suc at (sets-eq (a ∷ b ∷ c ∷ []) d at h))
 
 module _ (s : List ℕ) (i : ℕ) (long : length s ≡ all_words) (below : i < 16) where
-  pub handle_read : {ws : List ℕ} → ws ≡ put (zeros max_open) 0 (take (slot_words * i + slot_words - (slot_words * i + 3)) (drop (slot_words * i + 3) s))
+  pub handle_read : {ws : List ℕ} → ws ≡ take (slot_words * i + slot_words - (slot_words * i + 3)) (drop (slot_words * i + 3) s)
       → record { version = get_or s (slot_words * i + 1) 0; read_only = not (eqb (get_or s (slot_words * i) 0) 1); count = get_or s (slot_words * i + 2) 0; set = ws } ≡ handle_at s i
   unfolding handle_at
   handle_read {ws} e =
       let n : slot_words * i + slot_words - (slot_words * i + 3) ≡ max_open = omega arith in
-      let part = take max_open (drop (slot_words * i + 3) s) in
-      let l : length part ≡ max_open = simp (length-take, length-drop) (omega arith) in
-      let f : ws ≡ part = rw n at e ∙ put_front (zeros max_open) part ∙ rw l (append-nil part) in
+      let f : ws ≡ take max_open (drop (slot_words * i + 3) s) = rw n at e in
       ap (λ (x : List ℕ). record { version = get_or s (slot_words * i + 1) 0; read_only = not (eqb (get_or s (slot_words * i) 0) 1); count = get_or s (slot_words * i + 2) 0; set = x }) f
 
-  pub fill-laid : (h : Handle) {k : ℕ} {d : List ℕ} → k ≡ kind_of h.read_only
-      → d ≡ put (set (set (set s (slot_words * i) k) (slot_words * i + 1) h.version) (slot_words * i + 2) h.count) (slot_words * i + 3) h.set
-      → d ≡ fill s i h
+  pub fill-laid : (h : Handle) {k : ℕ} {ws : List ℕ} → k ≡ kind_of h.read_only
+      → length ws ≡ length (take (slot_words * i + slot_words - (slot_words * i + 3)) (drop (slot_words * i + 3) (set (set (set s (slot_words * i) k) (slot_words * i + 1) h.version) (slot_words * i + 2) h.count)))
+      → ws ≡ h.set
+      → put_mid (slot_words * i + 3) (slot_words * i + slot_words - (slot_words * i + 3)) (set (set (set s (slot_words * i) k) (slot_words * i + 1) h.version) (slot_words * i + 2) h.count) ws ≡ fill s i h
   unfolding fill words_of
-  fill-laid h {k} e f =
+  fill-laid h {k} {ws} e l f =
       let at = slot_words * i in
-      f
+      let n = at + slot_words - (at + 3) in
+      let d = set (set (set s at k) (at + 1) h.version) (at + 2) h.count in
+      let m : length (take n (drop (at + 3) d)) ≡ n = length-take-le n (drop (at + 3) d) (simp (length-drop, length-set) (omega arith)) in
+      mid-laid d (at + 3) n f (ap length (sym f) ∙ l ∙ m)
       ∙ rw (three_laid s at k h.version h.count (omega arith), e)
       (put-put s at (kind_of h.read_only ∷ h.version ∷ h.count ∷ []) (omega arith) h.set)
+
+  pub empty-laid : {ws : List ℕ} → ws ≡ zeros (length (take (slot_words * i + slot_words - slot_words * i) (drop (slot_words * i) s)))
+      → put_mid (slot_words * i) (slot_words * i + slot_words - slot_words * i) s ws ≡ empty s i
+  unfolding empty
+  empty-laid e =
+      let n : slot_words * i + slot_words - slot_words * i ≡ slot_words = omega arith in
+      mid-zeros s (slot_words * i) (slot_words * i + slot_words - slot_words * i) e (omega arith) ∙ ap (λ (k : ℕ). put s (slot_words * i) (zeros k)) n
 
 -- ---- a slot's words
 

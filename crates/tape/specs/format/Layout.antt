@@ -1,4 +1,4 @@
--- The 128 bytes of a record, of a request as of an answer. Document 01, 'Tape'. Assumes nothing.
+-- The 128 bytes of a record, of a request as of an answer. Assumes nothing.
 use Rattle.std.specs.Prelude.{ℕ, ◌-◌, List, [], ◌∷◌, ◌++◌, length, replicate}
 use Rattle.keycode.specs.Number.{be}
 

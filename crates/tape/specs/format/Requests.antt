@@ -1,4 +1,4 @@
--- A record as a request: its fields, and whether it is one that can be carried out. Document 01, 'Tape'. Assumes nothing.
+-- A record as a request: its fields, and whether it is one that can be carried out. Assumes nothing.
 use Rattle.std.specs.Prelude.{ℕ, ◌+◌, ◌-◌, ◌^◌, Bool, true, false, List, [], ◌∷◌, take, drop, get_or, eqb, leb}
 use Rattle.keycode.specs.Tests.{pick}
 use Rattle.keycode.specs.Number.{num}

@@ -1,5 +1,5 @@
 -- The handle slots of a tape: sixteen, in lent words, nineteen a slot. The first word of a slot is 0 where it is empty, 1 with a
--- read-write handle and 2 with a read-only one; then the handle's version, count and set. Document 01, 'Tape'. Assumes nothing.
+-- read-write handle and 2 with a read-only one; then the handle's version, count and set. Assumes nothing.
 use Rattle.std.specs.Prelude.{ℕ, ◌+◌, ◌*◌, Bool, true, not, List, ◌∷◌, take, drop, get_or, eqb, leb}
 use Rattle.keycode.specs.Tests.{pick}
 use Rattle.keycode.specs.Buffer.{put}

@@ -6,7 +6,8 @@ ghost use Rattle.tape.specs.format.Requests.{fields_of, between as between_by, s
 use crate::format::layout::{KEY_AT, KEY_ROOM, VALUE_AT, VALUE_ROOM};
 use keycode::number::get_number;
 
-#[derive(Clone, Copy)]
+// A request as its record has it: the bytes are numbers of the tape's own, whatever they are.
+#[derive(Clone, Copy, Debug, PartialEq, Eq)]
 pub struct Request {
     pub command: u8,
     pub slot: usize,
@@ -15,22 +16,15 @@ pub struct Request {
     pub version: u64,
 }
 
-// A byte as a number that a length is told in.
-fn wide(b: u8) -> usize
-    ensures { result ≡ b }
-{
-    b as usize
-}
-
 pub(crate) fn fields(bytes: &[u8]) -> Request
     requires { length bytes.now ≡ record_len }
     ensures { result ≡ fields_of bytes.now }
 {
     Request {
         command: bytes[0],
-        slot: wide(bytes[1]),
-        klen: wide(bytes[2]),
-        vlen: wide(bytes[3]),
+        slot: usize::from(bytes[1]),
+        klen: usize::from(bytes[2]),
+        vlen: usize::from(bytes[3]),
         version: get_number(&bytes[4..12]),
     }
 }
@@ -38,40 +32,38 @@ pub(crate) fn fields(bytes: &[u8]) -> Request
 fn between(low: u8, high: u8, command: u8) -> bool
     ensures { result ≡ between_by low high command }
 {
-    if command < low {
-        return false;
-    }
-    command <= high
+    low <= command && command <= high
 }
 
+// The last slot that a command may name.
 fn slot_most(command: u8) -> usize
     ensures { result ≡ slot_most command }
 {
     if command <= 9 { 15 } else { 0 }
 }
 
+// How long a command's key may be.
 fn key_most(command: u8) -> usize
     ensures { result ≡ key_most command }
 {
     if between(4, 7, command) { KEY_ROOM } else { 0 }
 }
 
+// How long a command's value may be.
 fn value_most(command: u8) -> usize
     ensures { result ≡ value_most command }
 {
     if command == 5 { VALUE_ROOM } else { 0 }
 }
 
+// How large a command's version may be.
 fn version_most(command: u8) -> u64
     ensures { result ≡ version_most command }
 {
-    if command == 3 {
-        0xffff_ffff_ffff_ffff
-    } else {
-        0
-    }
+    if command == 3 { u64::MAX } else { 0 }
 }
 
+// A known command, and each field as large as that command lets it be.
 fn modest(q: Request) -> bool
     ensures { result ≡ modest_by q }
 {
@@ -94,14 +86,7 @@ fn modest(q: Request) -> bool
 fn all_zero(s: &[u8]) -> bool
     ensures { result ≡ all_zero s.now }
 {
-    let mut i = 0;
-    while i < s.len() {
-        if s[i] != 0 {
-            return false;
-        }
-        i += 1;
-    }
-    true
+    s.iter().all(|byte| *byte == 0)
 }
 
 // The bytes behind the key and behind the value.
@@ -112,7 +97,7 @@ fn cleared(bytes: &[u8], klen: usize, vlen: usize) -> bool
     all_zero(&bytes[KEY_AT + klen..VALUE_AT]) && all_zero(&bytes[VALUE_AT + vlen..])
 }
 
-// Whether it stands as document 01 lays it out.
+// Whether it is laid out as a request that can be carried out.
 pub(crate) fn proper(bytes: &[u8]) -> bool
     requires { length bytes.now ≡ record_len }
     ensures { result ≡ proper_by bytes.now }

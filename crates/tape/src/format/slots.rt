@@ -11,6 +11,7 @@ pub(crate) const SLOT_WORDS: usize = 19;
 // Sixteen slots.
 pub(crate) const ALL_WORDS: usize = 304;
 
+// Whether a handle is kept there.
 pub(crate) fn filled(slots: &[u64], i: usize) -> bool
     requires { (length slots.now ≡ all_words) × (i < 16) }
     ensures { result ≡ filled_by slots.now i }
@@ -18,26 +19,14 @@ pub(crate) fn filled(slots: &[u64], i: usize) -> bool
     slots[SLOT_WORDS * i] != 0
 }
 
-fn copy_words(src: &[u64], out: &mut [u64], at: usize)
-    requires { at + length src.now ≤ length out.old }
-    ensures { out.new ≡ put out.old at src.now }
-{
-    let mut o = at;
-    let mut i = 0;
-    while i < src.len() {
-        out[o] = src[i];
-        o += 1;
-        i += 1;
-    }
-}
-
+// The handle that a filled slot keeps.
 pub(crate) fn handle_at(slots: &[u64], i: usize) -> Handle
     requires { (length slots.now ≡ all_words) × (i < 16) }
     ensures { result ≡ handle_at slots.now i }
 {
     let at = SLOT_WORDS * i;
     let mut set = [0u64; MAX_OPEN];
-    copy_words(&slots[at + 3..at + SLOT_WORDS], &mut set, 0);
+    set.copy_from_slice(&slots[at + 3..at + SLOT_WORDS]);
     Handle {
         version: slots[at + 1],
         read_only: slots[at] != 1,
@@ -46,28 +35,30 @@ pub(crate) fn handle_at(slots: &[u64], i: usize) -> Handle
     }
 }
 
+// The first word of a slot that keeps a handle.
 fn kind_of(read_only: bool) -> u64
     ensures { result ≡ kind_of read_only }
 {
     if read_only { 2 } else { 1 }
 }
 
+// A handle put into a slot.
 pub(crate) fn fill(slots: &mut [u64], i: usize, handle: Handle)
     requires { (length slots.old ≡ all_words) × (i < 16) }
     ensures { slots.new ≡ fill_by slots.old i handle }
 {
     let at = SLOT_WORDS * i;
-    let set = handle.set;
     slots[at] = kind_of(handle.read_only);
     slots[at + 1] = handle.version;
     slots[at + 2] = handle.count as u64;
-    copy_words(&set[..MAX_OPEN], slots, at + 3);
+    slots[at + 3..at + SLOT_WORDS].copy_from_slice(&handle.set);
 }
 
+// A slot's words 0 again.
 pub(crate) fn empty(slots: &mut [u64], i: usize)
     requires { (length slots.old ≡ all_words) × (i < 16) }
     ensures { slots.new ≡ empty_by slots.old i }
 {
-    let none = [0u64; SLOT_WORDS];
-    copy_words(&none[..SLOT_WORDS], slots, SLOT_WORDS * i);
+    let at = SLOT_WORDS * i;
+    slots[at..at + SLOT_WORDS].fill(0);
 }

@@ -1,5 +1,4 @@
 use native.Mathlib.Omega.{arith}
-use mathlib.Core.Path.{sym, ◌∙◌}
 use Rattle.tape.proofs.ScanLaws.{scan_start, scan_room, scan_turn, scan_over}
 use Rattle.tape.proofs.scan.show_all.Goals as goal
 
@@ -24,11 +23,5 @@ overflow_add-result c = omega (arith, c.loop-k.invariant.fits)
 pub overflow_mul-result : goal.overflow_mul-result
 overflow_mul-result c = omega (arith, c.loop-k.invariant.fits)
 
-pub shape_of-kept-in-None : goal.shape_of-kept-in-None
-shape_of-kept-in-None c = c.show_step.auto.kept ∙ c.loop-k.invariant.room ∙ sym c.requires.1
-
-pub shape_of-out-in-None : goal.shape_of-out-in-None
-shape_of-out-in-None c = c.show_step.auto.out ∙ c.loop-k.invariant.long
-
-pub returns-in-None : goal.returns-in-None
-returns-in-None c = scan_over c.loop-k.invariant c.show_step.ensures c.in-None.is
+pub returns : goal.returns
+returns c = scan_over c.loop-k.invariant c.show_step.ensures c.in_default.is

@@ -1,6 +1,10 @@
 -- `put_padded` lays bytes and the zeros behind them.
-use Rattle.tape.proofs.format.LayoutLaws.{padded-laid}
+use native.Mathlib.Omega.{arith}
+use Rattle.tape.proofs.format.LayoutLaws.{mid-laid, padded-filled}
 use Rattle.tape.proofs.format.layout.put_padded.Goals as goal
 
 pub returns : goal.returns
-returns c = let a = c.args in padded-laid a.out.now a.at a.room a.xs.now c.requires.0 c.requires.1 c.copy_into-end.ensures.0 c.copy_into-end.ensures.1 c.put_zeros.ensures
+returns c =
+    let a = c.args in
+    padded-filled a.out.now a.at a.room a.xs.now c.requires.0 c.requires.1
+    (mid-laid a.out.now a.at _ c.copy_from_slice.ensures.after (omega arith)) (c.fill.ensures.after (λ y e. e))

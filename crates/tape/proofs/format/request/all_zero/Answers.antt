@@ -1,15 +1,12 @@
-use mathlib.Core.Path.{refl}
-use Rattle.tape.proofs.format.RequestLaws.{zero-all, zero_not, zero-next}
+-- `all_zero` looks at one byte after the other.
+use Rattle.std.proofs.Common.{rules, tests, ◌∙◌, ℕ}
+use Rattle.std.proofs.lemmas.Iterator.{YieldsList-from_slice}
+use Rattle.std.proofs.lemmas.Iterator.Search.{all_from_yields_List}
+use lib.Dec.{eqb}
+use Rattle.tape.proofs.format.RequestLaws.{zeros-all}
 use Rattle.tape.proofs.format.request.all_zero.Goals as goal
 
-pub loop-i-init : goal.loop-i-init
-loop-i-init c = refl
-
-pub returns-then-s-i-ne0 : goal.returns-then-s-i-ne0
-returns-then-s-i-ne0 c = zero_not _ _ c.loop-i.invariant c.loop-i-test.true c.if-s-i-ne0.true
-
-pub loop-i-preserved : goal.loop-i-preserved
-loop-i-preserved c = zero-next _ _ c.loop-i.invariant c.loop-i-test.true c.if-s-i-ne0.false
-
 pub returns : goal.returns
-returns c = zero-all _ _ c.loop-i.invariant c.loop-i-test.false
+returns c =
+    let all = all_from_yields_List (λ (b : ℕ). eqb b 0) _ _ c.all.result c.all.ensures.ran (YieldsList-from_slice c.args.s.now cc) (λ x b q k. search (rules, tests)) in
+    all ∙ zeros-all c.args.s.now

@@ -2,8 +2,8 @@
 use Rattle.tape.proofs.format.RequestLaws.{between-below, between-from}
 use Rattle.tape.proofs.format.request.between.Goals as goal
 
-pub returns-then-command-low : goal.returns-then-command-low
-returns-then-command-low c = between-below _ _ _ c.if-command-low.true
+pub returns-then-low-command : goal.returns-then-low-command
+returns-then-low-command c = between-from _ _ _ c.if-low-command.true
 
-pub returns : goal.returns
-returns c = between-from _ _ _ c.if-command-low.false
+pub returns-else-low-command : goal.returns-else-low-command
+returns-else-low-command c = between-below _ _ _ c.if-low-command.false

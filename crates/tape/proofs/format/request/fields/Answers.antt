@@ -3,4 +3,4 @@ use Rattle.tape.proofs.format.RequestLaws.{fields_read}
 use Rattle.tape.proofs.format.request.fields.Goals as goal
 
 pub returns : goal.returns
-returns c = fields_read c.args.bytes.now c.wide.ensures c.wide-2.ensures c.wide-3.ensures c.get_number.ensures
+returns c = fields_read c.args.bytes.now c.from.ensures c.from-2.ensures c.from-3.ensures c.get_number.ensures

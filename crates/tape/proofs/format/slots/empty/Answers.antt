@@ -1,7 +1,6 @@
 -- `empty` lays zeros over a slot.
-use Rattle.tape.specs.format.Slots.{empty}
+use Rattle.tape.proofs.format.SlotLaws.{empty-laid}
 use Rattle.tape.proofs.format.slots.empty.Goals as goal
 
 pub returns : goal.returns
-unfolding empty
-returns c = c.copy_words.ensures
+returns c = let a = c.args in empty-laid a.slots.now a.i c.requires.0 c.requires.1 (c.fill.ensures.after (λ y e. e))
