@@ -1,8 +1,8 @@
 // What the engine calls answer.
-use keycode::{Part, Refusal};
+use keycode::Part;
 
 // One end of a scan.
-#[derive(Clone, Copy)]
+#[derive(Clone, Copy, Debug, PartialEq, Eq)]
 pub enum Bound {
     Included,
     Excluded,

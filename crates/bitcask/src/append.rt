@@ -11,47 +11,29 @@ use crate::keydir::{Slot, enter, find, leave};
 use keycode::Refusal;
 
 // The end of a log's entries, and how many of its table's slots are in use.
-#[derive(Clone, Copy)]
+#[derive(Clone, Copy, Debug, PartialEq, Eq)]
 pub struct Mark {
     pub used: usize,
     pub count: usize,
 }
 
-// The room that an entry leaves. The lengths are compared one by one, so that no sum of them can wrap.
+// The room that an entry leaves; None where it has none, then or before. The lengths are taken off one by one, so that no sum of them can
+// wrap.
 pub fn room_after(room: Option<usize>, klen: usize, vlen: usize) -> Option<usize>
     ensures { result ≡ room_after room klen vlen }
 {
-    match room {
-        None => None,
-        Some(n) => {
-            if n < 8 {
-                return None;
-            }
-            if n - 8 < klen {
-                return None;
-            }
-            if n - 8 - klen < vlen {
-                return None;
-            }
-            Some(n - 8 - klen - vlen)
-        }
-    }
+    room?.checked_sub(8)?.checked_sub(klen)?.checked_sub(vlen)
 }
 
 // 7 where the entries have no room, then 8 where their new keys have no slots.
 pub(crate) fn judged(room: Option<usize>, fresh: usize, free: usize) -> Result<(), Refusal>
     ensures { result ≡ judge room fresh free }
 {
-    match room {
-        None => Err(Refusal::LogFull),
-        Some(_) => {
-            if free < fresh {
-                Err(Refusal::TableFull)
-            } else {
-                Ok(())
-            }
-        }
+    room.ok_or(Refusal::LogFull)?;
+    if free < fresh {
+        return Err(Refusal::TableFull);
     }
+    Ok(())
 }
 
 // How many slots a key wants: none where it has one.
@@ -59,10 +41,7 @@ pub(crate) fn fresh(log: &[u8], table: &[u32], count: usize, key: &[u8]) -> usiz
     requires { slot_words * count ≤ length table.now }
     ensures { result ≡ fresh_in log.now key.now (slots_of count table.now) }
 {
-    match find(log, table, count, key) {
-        Ok(_) => 0,
-        Err(_) => 1,
-    }
+    usize::from(find(log, table, count, key).is_err())
 }
 
 // An entry whose value is head and then body.
@@ -84,16 +63,8 @@ pub(crate) fn append_set(
     let klen = key.len();
     let vlen = head.len() + body.len();
     let used = put_set(log, at, key, head, body);
-    let n = enter(
-        table,
-        count,
-        found,
-        Slot {
-            place: (at + 1) as u32,
-            klen: klen as u32,
-            vlen: vlen as u32,
-        },
-    );
+    let slot = Slot::of_entry(at, klen, vlen);
+    let n = enter(table, count, found, slot);
     Mark { used, count: n }
 }
 

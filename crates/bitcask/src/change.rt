@@ -18,47 +18,31 @@ pub fn set(
     ensures { Changes log.old used.len table.old (set_entry key.now value.now) result log.new table.new }
 {
     let at = used.len;
-    let good = fits(log.len(), at, table.len());
-    if !good {
+    if !fits(log.len(), at, table.len()) {
         return Err(Refusal::BadRequest);
     }
     let n = count(table);
     let room = room_after(Some(log.len() - at), key.len(), value.len());
-    match judged(
+    judged(
         room,
         fresh(log, table, n, key),
         table.len() / SLOT_WORDS - n,
-    ) {
-        Err(r) => Err(r),
-        Ok(()) => {
-            let mark = append_set(
-                log,
-                table,
-                Mark { used: at, count: n },
-                key,
-                value,
-                &value[..0],
-            );
-            Ok(Used { len: mark.used })
-        }
-    }
+    )?;
+    let mark = Mark { used: at, count: n };
+    let mark = append_set(log, table, mark, key, value, &value[..0]);
+    Ok(Used { len: mark.used })
 }
 
 pub fn delete(log: &mut [u8], used: Used, table: &mut [u32], key: &[u8]) -> Result<Used, Refusal>
     ensures { Changes log.old used.len table.old (del_entry key.now) result log.new table.new }
 {
     let at = used.len;
-    let good = fits(log.len(), at, table.len());
-    if !good {
+    if !fits(log.len(), at, table.len()) {
         return Err(Refusal::BadRequest);
     }
     let n = count(table);
     let room = room_after(Some(log.len() - at), key.len(), 0);
-    match judged(room, 0, table.len() / SLOT_WORDS - n) {
-        Err(r) => Err(r),
-        Ok(()) => {
-            let mark = append_del(log, table, Mark { used: at, count: n }, key);
-            Ok(Used { len: mark.used })
-        }
-    }
+    judged(room, 0, table.len() / SLOT_WORDS - n)?;
+    let mark = append_del(log, table, Mark { used: at, count: n }, key);
+    Ok(Used { len: mark.used })
 }

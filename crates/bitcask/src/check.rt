@@ -1,6 +1,6 @@
 // The yes/no on agreement, for any bytes and words: one walk of the log, and no second table. Only a value whose key has no slot looks
 // ahead, to the next entry of its key: near linear on most logs, quadratic at worst.
-ghost use Rattle.std.specs.Prelude.{◌≡◌, ◌+◌, ◌*◌, ◌≤◌, ◌<◌, suc, length, drop, get_or};
+ghost use Rattle.std.specs.Prelude.{◌≡◌, ◌+◌, ◌*◌, ◌≤◌, ◌<◌, length, get_or};
 ghost use Rattle.keycode.specs.Limits.{max_log};
 ghost use Rattle.keycode.specs.Order.{compare_bytes};
 ghost use Rattle.bitcask.specs.entry.Reading.{entry_at};
@@ -11,38 +11,29 @@ ghost use Rattle.bitcask.specs.check.Promises.{Tells};
 
 use crate::entry::{Lengths, entry_at};
 use crate::keydir::{SLOT_WORDS, Slot, count, find, key_of, slot_at};
-use crate::read::value_part;
 use crate::request::{Used, fits};
 use keycode::compare;
-use std::cmp::Ordering;
 
 // An entry of the log as a slot, and whether it is a tombstone.
-#[derive(Clone, Copy)]
+#[derive(Clone, Copy, Debug, PartialEq, Eq)]
 pub struct Seen {
     pub slot: Slot,
     pub gone: bool,
 }
 
 // An entry that no agreeing table allows, one that lies before its slot's or needs none, or a slot's own.
-#[derive(Clone, Copy)]
+#[derive(Clone, Copy, Debug, PartialEq, Eq)]
 pub enum Judged {
     Wrong,
     Early,
     Exact,
 }
 
-// Whether every word from an index on is 0.
-fn zeros(table: &[u32], from: usize) -> bool
-    ensures { result ≡ zeroed (drop from table.now) }
+// Whether every word is 0.
+fn zeros(words: &[u32]) -> bool
+    ensures { result ≡ zeroed words.now }
 {
-    let mut i = from;
-    while i < table.len() {
-        if table[i] != 0 {
-            return false;
-        }
-        i += 1;
-    }
-    true
+    words.iter().all(|&word| word == 0)
 }
 
 // Whether a slot's key is below the next one's.
@@ -50,15 +41,8 @@ fn in_order(log: &[u8], table: &[u32], count: usize, i: usize) -> bool
     requires { (i + 1 < count) × (slot_words * count ≤ length table.now) }
     ensures { result ≡ is_less (compare_bytes (key_of log.now (get_or (slots_of count table.now) i free_slot)) (key_of log.now (get_or (slots_of count table.now) (i + 1) free_slot))) }
 {
-    let o = compare(
-        key_of(log, slot_at(table, i)),
-        key_of(log, slot_at(table, i + 1)),
-    );
-    match o {
-        Ordering::Less => true,
-        Ordering::Equal => false,
-        Ordering::Greater => false,
-    }
+    let key = key_of(log, slot_at(table, i));
+    compare(key, key_of(log, slot_at(table, i + 1))).is_lt()
 }
 
 // Whether the keys of the first `count` slots strictly rise.
@@ -66,43 +50,28 @@ fn rising(log: &[u8], table: &[u32], count: usize) -> bool
     requires { slot_words * count ≤ length table.now }
     ensures { result ≡ risen log.now (slots_of count table.now) }
 {
-    let mut i = 0;
-    while i < count {
-        if count - i < 2 {
-            return true;
-        }
-        if in_order(log, table, count, i) {
-            i += 1;
-        } else {
+    for i in 1..count {
+        if !in_order(log, table, count, i - 1) {
             return false;
         }
     }
     true
 }
 
-// The entry at an offset.
+// The entry at an offset; None where no whole one stands there.
 fn entry_from(log: &[u8], used: usize, at: usize) -> Option<Seen>
     requires { (at ≤ used) × (used ≤ max_log) }
     ensures { result ≡ ahead_of (item_of (entry_at log.now used at) at) }
 {
-    match entry_at(log, used, at) {
-        Some(Lengths::Set { klen, vlen }) => {
-            let slot = Slot {
-                place: (at + 1) as u32,
-                klen: klen as u32,
-                vlen: vlen as u32,
-            };
-            Some(Seen { slot, gone: false })
-        }
-        Some(Lengths::Del { klen }) => {
-            let slot = Slot {
-                place: (at + 1) as u32,
-                klen: klen as u32,
-                vlen: 0,
-            };
-            Some(Seen { slot, gone: true })
-        }
-        None => None,
+    match entry_at(log, used, at)? {
+        Lengths::Set { klen, vlen } => Some(Seen {
+            slot: Slot::of_entry(at, klen, vlen),
+            gone: false,
+        }),
+        Lengths::Del { klen } => Some(Seen {
+            slot: Slot::of_entry(at, klen, 0),
+            gone: true,
+        }),
     }
 }
 
@@ -110,20 +79,14 @@ fn entry_from(log: &[u8], used: usize, at: usize) -> Option<Seen>
 fn past(s: Slot) -> usize
     ensures { result ≡ s.place + 7 + s.klen + s.vlen }
 {
-    let v = value_part(s);
-    v.at + v.len
+    s.value_at() + s.vlen as usize
 }
 
 // Whether a slot's key is the one given.
 fn same_key(log: &[u8], s: Slot, key: &[u8]) -> bool
     ensures { result ≡ is_equal (compare_bytes (key_of log.now s) key.now) }
 {
-    let o = compare(key_of(log, s), key);
-    match o {
-        Ordering::Less => false,
-        Ordering::Equal => true,
-        Ordering::Greater => false,
-    }
+    compare(key_of(log, s), key).is_eq()
 }
 
 // Whether an entry from an offset on has the key.
@@ -132,20 +95,13 @@ fn later(log: &[u8], used: usize, from: usize, key: &[u8]) -> bool
     ensures { result ≡ later_in log.now key.now (items log.now used from) }
 {
     let mut at = from;
-    loop {
-        match entry_from(log, used, at) {
-            None => {
-                return false;
-            }
-            Some(e) => {
-                let slot = e.slot;
-                if same_key(log, slot, key) {
-                    return true;
-                }
-                at = past(slot);
-            }
+    while let Some(e) = entry_from(log, used, at) {
+        if same_key(log, e.slot, key) {
+            return true;
         }
+        at = past(e.slot);
     }
+    false
 }
 
 // An entry against the slot that its key has.
@@ -155,19 +111,11 @@ fn against(s: Slot, x: Slot, gone: bool) -> Judged
     if x.place < s.place {
         return Judged::Early;
     }
-    if gone {
-        return Judged::Wrong;
+    if !gone && s == x {
+        Judged::Exact
+    } else {
+        Judged::Wrong
     }
-    if s.place != x.place {
-        return Judged::Wrong;
-    }
-    if s.klen != x.klen {
-        return Judged::Wrong;
-    }
-    if s.vlen != x.vlen {
-        return Judged::Wrong;
-    }
-    Judged::Exact
 }
 
 // An entry against the slot of its key, or, where there is none, against the entries behind it.
@@ -175,15 +123,11 @@ fn judge(log: &[u8], used: usize, table: &[u32], count: usize, e: Seen) -> Judge
     requires { (e.slot.place + 7 + e.slot.klen + e.slot.vlen ≤ used) × (used ≤ max_log) × (slot_words * count ≤ length table.now) }
     ensures { result ≡ judged_in log.now (slots_of count table.now) (item_seen e) (items log.now used (e.slot.place + 7 + e.slot.klen + e.slot.vlen)) }
 {
-    let slot = e.slot;
-    let key = key_of(log, slot);
+    let key = key_of(log, e.slot);
     match find(log, table, count, key) {
-        Ok(j) => against(slot_at(table, j), slot, e.gone),
+        Ok(j) => against(slot_at(table, j), e.slot, e.gone),
         Err(_) => {
-            if e.gone {
-                return Judged::Early;
-            }
-            if later(log, used, past(slot), key) {
+            if e.gone || later(log, used, past(e.slot), key) {
                 Judged::Early
             } else {
                 Judged::Wrong
@@ -192,38 +136,26 @@ fn judge(log: &[u8], used: usize, table: &[u32], count: usize, e: Seen) -> Judge
     }
 }
 
-// The entries one after the other, up to the used length.
+// How many of the entries, one after the other up to the used length, are a slot's; None where one is wrong or they end before.
 fn walk(log: &[u8], used: usize, table: &[u32], count: usize) -> Option<usize>
     requires { (used ≤ max_log) × (slot_words * count ≤ length table.now) }
     ensures { result ≡ walked_in log.now used (slots_of count table.now) 0 (items log.now used 0) }
 {
     let mut at = 0;
     let mut met = 0;
-    loop {
-        match entry_from(log, used, at) {
-            None => {
-                if at == used {
-                    return Some(met);
-                }
+    while let Some(e) = entry_from(log, used, at) {
+        match judge(log, used, table, count, e) {
+            Judged::Wrong => {
                 return None;
             }
-            Some(e) => {
-                let slot = e.slot;
-                match judge(log, used, table, count, e) {
-                    Judged::Wrong => {
-                        return None;
-                    }
-                    Judged::Early => {
-                        at = past(slot);
-                    }
-                    Judged::Exact => {
-                        met += 1;
-                        at = past(slot);
-                    }
-                }
+            Judged::Early => {}
+            Judged::Exact => {
+                met += 1;
             }
         }
+        at = past(e.slot);
     }
+    if at == used { Some(met) } else { None }
 }
 
 // Whether the table is recovery's for the log, and recovery cuts nothing.
@@ -231,16 +163,9 @@ pub fn agrees(log: &[u8], used: Used, table: &[u32]) -> bool
     ensures { Tells log.now used.len table.now result }
 {
     let len = used.len;
-    if fits(log.len(), len, table.len()) {
-        let n = count(table);
-        if zeros(table, SLOT_WORDS * n) {
-            if rising(log, table, n) {
-                return match walk(log, len, table, n) {
-                    None => false,
-                    Some(m) => m == n,
-                };
-            }
-        }
+    if !fits(log.len(), len, table.len()) {
+        return false;
     }
-    false
+    let n = count(table);
+    zeros(&table[SLOT_WORDS * n..]) && rising(log, table, n) && walk(log, len, table, n) == Some(n)
 }

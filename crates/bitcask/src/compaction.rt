@@ -1,5 +1,5 @@
 // Compaction: the live entries in key order into a second buffer, the target, and the table's slots renamed to their places there.
-// The old log stays. Part of toydb's storage/bitcask.rs. Document 01, 'The log'.
+// The old log stays. Part of toydb's storage/bitcask.rs.
 ghost use Rattle.std.specs.Prelude.{◌+◌, ◌*◌, ◌≤◌, length};
 ghost use Rattle.keycode.specs.Limits.{max_log};
 ghost use Rattle.bitcask.specs.entry.Entry.{size_of};
@@ -28,15 +28,7 @@ fn move_slot(log: &[u8], table: &mut [u32], i: usize, target: &mut [u8], to: usi
     let klen = key.len();
     let vlen = value.len();
     let end = put_set(target, to, key, value, &value[..0]);
-    store(
-        table,
-        SLOT_WORDS * i,
-        Slot {
-            place: (to + 1) as u32,
-            klen: klen as u32,
-            vlen: vlen as u32,
-        },
-    );
+    store(table, SLOT_WORDS * i, Slot::of_entry(to, klen, vlen));
     end
 }
 
@@ -46,10 +38,8 @@ fn move_all(log: &[u8], table: &mut [u32], count: usize, target: &mut [u8]) -> u
     ensures { Moved table.old target.old (entries_of (view log.now (slots_of count table.old))) table.new target.new result }
 {
     let mut to = 0;
-    let mut i = 0;
-    while i < count {
+    for i in 0..count {
         to = move_slot(log, table, i, target, to);
-        i += 1;
     }
     to
 }
@@ -72,11 +62,7 @@ pub fn compact(
         return Err(Refusal::BadRequest);
     }
     let n = count(table);
-    match live_upto(table, n, room) {
-        None => Err(Refusal::LogFull),
-        Some(_) => {
-            let len = move_all(log, table, n, target);
-            Ok(Used { len })
-        }
-    }
+    live_upto(table, n, room).ok_or(Refusal::LogFull)?;
+    let len = move_all(log, table, n, target);
+    Ok(Used { len })
 }

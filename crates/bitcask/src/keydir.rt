@@ -1,5 +1,5 @@
 // The table of the log's keys: three words a slot, slots in byte order of their keys, the place of a key found by halving, slots put in
-// and taken out. It is the KeyDir of toydb's storage/bitcask.rs over a lent table of words (document 01, 'Sizes').
+// and taken out. It is the KeyDir of toydb's storage/bitcask.rs over a lent table of words.
 pub mod place;
 pub mod slots;
 

@@ -1,5 +1,5 @@
 // The log: open, get, scan step, set, delete, compaction, status and the yes/no on agreement, over a lent log and a lent table. It is
-// toydb's storage/bitcask.rs and engine.rs. Document 01, 'The log'. What is public below the modules is for the transactions.
+// toydb's storage/bitcask.rs and engine.rs. What is public below the modules is for the transactions.
 #![tactic(auto)]
 
 pub mod answers;

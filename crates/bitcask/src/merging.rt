@@ -9,7 +9,6 @@ ghost use Rattle.bitcask.specs.merging.Passes.{Flushes};
 
 use crate::keydir::SLOT_WORDS;
 use crate::merging::out::take_all;
-pub(crate) use crate::merging::put::GONE;
 use crate::merging::put::{count_new, put_all};
 
 // All changes that wait; gives the slots in use then. Changes that have no room, which no caller of this store lets wait, are left out.

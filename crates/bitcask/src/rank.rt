@@ -11,8 +11,7 @@ pub(crate) fn below(log: &[u8], table: &[u32], count: usize, key: &[u8]) -> usiz
     requires { slot_words * count ≤ length table.now }
     ensures { (result ≡ below_of log.now key.now (slots_of count table.now)) × (result ≤ count) }
 {
-    let (Ok(i) | Err(i)) = find(log, table, count, key);
-    i
+    find(log, table, count, key).unwrap_or_else(|before| before)
 }
 
 // How many keys are below one or the same.

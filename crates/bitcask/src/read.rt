@@ -16,9 +16,7 @@ use keycode::{Part, Refusal};
 pub fn part<'a>(log: &'a [u8], place: Part) -> &'a [u8]
     ensures { result.now ≡ take place.len (drop place.at log.now) }
 {
-    let at = place.at;
-    let len = place.len;
-    clip(log, at, len)
+    clip(log, place.at, place.len)
 }
 
 // The place of a slot's key.
@@ -44,8 +42,7 @@ pub(crate) fn value_part(s: Slot) -> Part
 pub fn get(log: &[u8], used: Used, table: &[u32], key: &[u8]) -> Result<Part, Refusal>
     ensures { Gets log.now used.len table.now key.now result }
 {
-    let good = fits(log.len(), used.len, table.len());
-    if !good {
+    if !fits(log.len(), used.len, table.len()) {
         return Err(Refusal::BadRequest);
     }
     let n = count(table);
@@ -53,12 +50,6 @@ pub fn get(log: &[u8], used: Used, table: &[u32], key: &[u8]) -> Result<Part, Re
         Ok(i) => Ok(value_part(slot_at(table, i))),
         Err(_) => Err(Refusal::Absent),
     }
-}
-
-fn most(a: usize, b: usize) -> usize
-    ensures { result ≡ max a b }
-{
-    if a < b { b } else { a }
 }
 
 fn last_bound(given: bool) -> Bound
@@ -86,14 +77,13 @@ pub fn scan_step(
 ) -> Result<KeyValue, Refusal>
     ensures { Steps log.now used.len table.now lower low.now upper high.now given last.now result }
 {
-    let good = fits(log.len(), used.len, table.len());
-    if !good {
+    if !fits(log.len(), used.len, table.len()) {
         return Err(Refusal::BadRequest);
     }
     let n = count(table);
     let a = from_bound(log, table, n, lower, low);
     let b = from_bound(log, table, n, last_bound(given), last);
-    let start = most(a, b);
+    let start = a.max(b);
     let end = upto_bound(log, table, n, upper, high);
     if start < end {
         let s = slot_at(table, start);

@@ -10,7 +10,7 @@ use crate::request::{Used, fits};
 use keycode::Refusal;
 
 // Live keys, their key and value bytes, the used length, and the bytes that the live entries take. Garbage is the last two's difference.
-#[derive(Clone, Copy)]
+#[derive(Clone, Copy, Debug, PartialEq, Eq)]
 pub struct Counts {
     pub keys: usize,
     pub size: usize,
@@ -25,21 +25,19 @@ fn entry_bytes(klen: u32, vlen: u32) -> usize
     8 + klen as usize + vlen as usize
 }
 
-// The bytes of the entries of the first `count` slots, as far as they are no more than the cap.
+// The bytes of the entries of the first `count` slots; None where they are more than the cap.
 pub(crate) fn live_upto(table: &[u32], count: usize, cap: usize) -> Option<usize>
     requires { slot_words * count ≤ length table.now }
     ensures { result ≡ capped cap (live_of (slots_of count table.now)) }
 {
     let mut total = 0;
-    let mut i = 0;
-    while i < count {
+    for i in 0..count {
         let s = slot_at(table, i);
         let n = entry_bytes(s.klen, s.vlen);
         if cap - total < n {
             return None;
         }
         total += n;
-        i += 1;
     }
     Some(total)
 }

@@ -7,7 +7,7 @@ use keycode::Refusal;
 use keycode::limits::MAX_LOG;
 
 // How many bytes of a log count.
-#[derive(Clone, Copy)]
+#[derive(Clone, Copy, Debug, PartialEq, Eq)]
 pub struct Used {
     pub len: usize,
 }
@@ -16,11 +16,5 @@ pub struct Used {
 pub fn fits(size: usize, used: usize, words: usize) -> bool
     ensures { result ≡ fit size used words }
 {
-    if MAX_LOG < size {
-        return false;
-    }
-    if size < used {
-        return false;
-    }
-    words % SLOT_WORDS == 0
+    size <= MAX_LOG && used <= size && words % SLOT_WORDS == 0
 }

@@ -1,19 +1,17 @@
 -- What the code of an append does, by what its callees promise, and the room test. Assumes nothing.
-use Prim.Native.Nat.{ℕ, ◌+◌, ◌-◌, ◌≤◌, ◌<◌}
+use Prim.Native.Nat.{ℕ, ◌+◌}
 use mathlib.Core.Path.{◌≡◌, ap}
 use mathlib.Core.List.{List, ◌++◌}
 use lib.ListN.{length, length-append}
-use borrow.Author.Tests.{le-leb, lt-leb}
-use Rattle.std.specs.Prelude.{Result, ℕ, Option, Some, None, Ok, Err}
+use Rattle.std.specs.Prelude.{Result, ℕ}
 use Rattle.keycode.specs.Buffer.{put}
-use Rattle.keycode.specs.declared.refusal.Refusal.TheVariants.{LogFull, TableFull}
 use Rattle.bitcask.specs.entry.Entry.{Entry, set, del, bytes_of, size_of}
 use Rattle.bitcask.specs.declared.keydir.slots.Slot.{Slot}
 use Rattle.bitcask.specs.keydir.Slots.{slots_of}
 use Rattle.bitcask.specs.keydir.Place.{place_of, entered, cut_at, Becomes, Among}
 use Rattle.bitcask.proofs.keydir.SlotLaws.{slots_length}
 use Rattle.bitcask.proofs.keydir.PlaceLaws.{place-among}
-use Rattle.bitcask.specs.change.Append.{slots_after, appended, room_after, judge, wants, fresh_in}
+use Rattle.bitcask.specs.change.Append.{slots_after, appended, wants, fresh_in}
 
 -- ---- one entry
 
@@ -28,35 +26,15 @@ unfolding appended
 appended-is log t used n e log' t' u c p q b = λ j. record { log = p j; used = q j; table = b.words j; count = b.count j }
 
 pub set_becomes : (log t : List ℕ) (used n : ℕ) (key head body : List ℕ) (f : Result ℕ ℕ) (t' : List ℕ) (c : ℕ) → f ≡ place_of log key (slots_of n t)
-    → Becomes t n (entered t (record { place = used + 1; klen = length key; vlen = length head + length body }) f (slots_of n t)) t' c
+    → {s : Slot} → s ≡ record { place = used + 1; klen = length key; vlen = length head + length body } → Becomes t n (entered t s f (slots_of n t)) t' c
     → Becomes t n (slots_after log used t (set key (head ++ body)) (slots_of n t)) t' c
-set_becomes log t used n key head body f t' c e b = rw (← e, length-append head body) b
+set_becomes log t used n key head body f t' c e es b = rw (← e, length-append head body, ← es) b
 
 pub del_becomes : (log t : List ℕ) (used n : ℕ) (key : List ℕ) (f : Result ℕ ℕ) (t' : List ℕ) (c : ℕ) → f ≡ place_of log key (slots_of n t)
     → Becomes t n (cut_at f (slots_of n t)) t' c → Becomes t n (slots_after log used t (del key) (slots_of n t)) t' c
 del_becomes log t used n key f t' c e b = rw (← e) b
 
--- ---- the room test
-
-module _ (room : Option ℕ) (n k v : ℕ) (e : room ≡ Some n) where
-  pub room-full : n < 8 + k + v → None ≡ room_after room k v
-  room-full h = rw (e, lt-leb (8 + k + v) n h)
-
-  pub room_left : (m : ℕ) → 8 + k + v ≤ n → m ≡ n - (8 + k + v) → Some m ≡ room_after room k v
-  room_left m h q = rw (e, q, le-leb (8 + k + v) n h)
-
-pub room-none : (room : Option ℕ) (k v : ℕ) → room ≡ None → None ≡ room_after room k v
-room-none room k v e = rw e
-
-pub judge-full : (room : Option ℕ) (fresh free : ℕ) → room ≡ None → Err LogFull ≡ judge room fresh free
-judge-full room fresh free e = rw e
-
-module _ (room : Option ℕ) (n fresh free : ℕ) (e : room ≡ Some n) where
-  pub judge-slots : free < fresh → Err TableFull ≡ judge room fresh free
-  judge-slots h = rw (e, lt-leb fresh free h)
-
-  pub judge_fine : fresh ≤ free → (Ok tt) ≡ judge room fresh free
-  judge_fine h = rw (e, le-leb fresh free h)
+-- ---- how many slots a key wants
 
 pub fresh_is : (log key : List ℕ) (ss : List Slot) (f : Result ℕ ℕ) → f ≡ place_of log key ss → wants f ≡ fresh_in log key ss
 unfolding fresh_in

@@ -1,5 +1,5 @@
 -- Laws of the loops that tell agreement: a turn and an end of each, for any words. Assumes nothing.
-use Prim.Native.Nat.{ℕ, suc, ◌+◌, ◌-◌, ◌≤◌, ◌<◌}
+use Prim.Native.Nat.{ℕ, zero, suc, ◌+◌, ◌-◌, ◌≤◌, ◌<◌}
 use mathlib.Core.Path.{◌≡◌, refl, sym, ap, ◌∙◌}
 use mathlib.Core.Bool.{Bool, true, false}
 use mathlib.Core.List.{List, [], ◌∷◌}
@@ -7,9 +7,14 @@ use native.Mathlib.Numerals.{add-one}
 use native.Mathlib.Omega.{arith}
 use lib.ListN.{length, drop, get_or, drop_of_length-le}
 use lib.Seq.{drop-cons}
-use borrow.Author.Tests.{eq-eqb, ne_eqb, lt-ltb, le-ltb}
+use borrow.Author.Tests.{eq-eqb, eqb-true, ne_eqb, ltb-true, ltb-false}
+use lib.Dec.{eqb, ltb}
+use Rattle.std.specs.List.{All}
+use Rattle.bitcask.proofs.recovery.AgreeLaws.{both}
 use Rattle.std.specs.Prelude.{Result, ℕ, Ok, Err, Option, Some, None}
 use Rattle.std.specs.declared.cmp.Ordering.{Ordering}
+use Rattle.std.specs.declared.cmp.Ordering.TheVariants.{Less, Equal, Greater}
+use Rattle.std.specs.Ordering.{is_lt, is_eq}
 use Rattle.keycode.specs.Order.{compare_bytes}
 use Rattle.keycode.proofs.Basics.{nope}
 use Rattle.bitcask.specs.declared.entry.read.Lengths.{Lengths}
@@ -29,21 +34,38 @@ use Rattle.bitcask.proofs.read.RankLaws.{found_at}
 
 -- ---- words that are 0
 
-module _ (t : List ℕ) (i : ℕ) where
-  pub zero_end : length t ≤ i → true ≡ zeroed (drop i t)
-  unfolding zeroed
-  zero_end h = rw (drop_of_length-le t {i = i} h)
+all_zero : (t : List ℕ) → All (λ (x : ℕ). x ≡ 0) t → zeroed t ≡ true
+unfolding zeroed
+all_zero [] a = refl
+all_zero (x ∷ t) a = rw (eq-eqb x 0 (a zero 0 (omega arith))) (all_zero t (λ k d h. a (suc k) d (omega arith)))
 
-  module _ (h : i < length t) where
-    pub zero_turn : get_or t i 0 ≡ 0 → zeroed (drop i t) ≡ zeroed (drop (i + 1) t)
-    unfolding zeroed
-    zero_turn e = rw (add-one, drop-cons t i 0 h, eq-eqb (get_or t i 0) 0 e)
+zero-all : (t : List ℕ) → zeroed t ≡ true → All (λ (x : ℕ). x ≡ 0) t
+unfolding zeroed
+zero-all [] e k d h = absurd (omega arith)
+zero-all (x ∷ t) e zero d h = eqb-true x 0 (both (eqb x 0) (zeroed t) e).0
+zero-all (x ∷ t) e (suc k) d h = zero-all t (both (eqb x 0) (zeroed t) e).1 k d (omega arith)
 
-    pub zero-stop : (get_or t i 0 ≡ 0 → ⊥) → false ≡ zeroed (drop i t)
-    unfolding zeroed
-    zero-stop n = rw (drop-cons t i 0 h, ne_eqb (get_or t i 0) 0 n)
+-- the test as the library says it
+pub zeroed-all : (t : List ℕ) (b : Bool) → (b ≡ true → All (λ (x : ℕ). x ≡ 0) t) × (All (λ (x : ℕ). x ≡ 0) t → b ≡ true) → b ≡ zeroed t
+zeroed-all t true p = sym (all_zero t (p.0 refl))
+zeroed-all t false p = go (zeroed t) refl
+  where
+    go : (z : Bool) → zeroed t ≡ z → false ≡ z
+    go true e = nope (cc (p.1 (zero-all t e)))
+    go false e = refl
 
 -- ---- keys that rise
+
+-- the library's words for an order that is Less, and for one that is Equal
+pub less-is : (o : Ordering) → is_lt o ≡ is_less o
+less-is Less = refl
+less-is Equal = refl
+less-is Greater = refl
+
+pub equal-is : (o : Ordering) → is_eq o ≡ is_equal o
+equal-is Less = refl
+equal-is Equal = refl
+equal-is Greater = refl
 
 pub pair_is : (log t : List ℕ) (n i : ℕ) {s x : Slot} {a b : List ℕ} {o : Ordering} → i + 1 < n → s ≡ slot_at t i → x ≡ slot_at t (i + 1) → a ≡ key_of log s → b ≡ key_of log x
     → o ≡ compare_bytes a b
@@ -74,18 +96,17 @@ module _ (log : List ℕ) (ss : List Slot) (i : ℕ) where
         let f : is_less (compare_bytes (key_of log (get_or ss i free_slot)) (key_of log (get_or ss (suc i) free_slot))) ≡ false = rw (add-one) at e in
         rw (drop-cons ss i free_slot h, drop-cons ss (suc i) free_slot (omega arith), f)
 
+  -- one slot or none is left
+  pub rise_done : length ss ≤ i + 1 → true ≡ risen log (drop i ss)
+  rise_done l = go (ltb i (length ss)) refl
+    where
+      go : (b : Bool) → ltb i (length ss) ≡ b → true ≡ risen log (drop i ss)
+      go true e = rise_last (ltb-true i (length ss) e) (omega arith)
+      go false e = rise_end (ltb-false i (length ss) e)
+
 -- ---- the entry at an offset
 
 module _ (log : List ℕ) (used at : ℕ) {r : Option Lengths} (e : r ≡ entry_at log used at) where
-  pub ahead_set : (k v : ℕ) → r ≡ (Some (Set k v)) → Some (record { slot = record { place = at + 1; klen = k; vlen = v }; gone = false }) ≡ ahead_of (item_of (entry_at log used at) at)
-  ahead_set k v f = rw (← e, f, add-one)
-
-  pub ahead_del : (k : ℕ) → r ≡ (Some (Del k)) → Some (record { slot = record { place = at + 1; klen = k; vlen = 0 }; gone = true }) ≡ ahead_of (item_of (entry_at log used at) at)
-  ahead_del k f = rw (← e, f, add-one)
-
-  pub ahead_stop : r ≡ None → None ≡ ahead_of (item_of (entry_at log used at) at)
-  ahead_stop f = rw (← e, f)
-
   pub set_near : (k v : ℕ) → r ≡ (Some (Set k v)) → at + 8 + k + v ≤ used
   set_near k v f = let w = item_stands log used at (record { slot = record { place = at + 1; klen = k; vlen = v }; gone = false }) (rw (← e, f)) in let n = w.near in omega arith
 
@@ -150,35 +171,6 @@ pub later-from : (log key : List ℕ) (used : ℕ) {p q : ℕ} {b : Bool} → p 
 later-from log key used e f = f ∙ ap (λ (x : ℕ). later_in log key (items log used x)) e
 
 -- ---- an entry judged
-
-module _ (s x : Slot) (g : Bool) where
-  pub against-early : x.place < s.place → Early ≡ against s x g
-  unfolding against
-  against-early h = rw (lt-ltb x.place s.place h)
-
-  module _ (h : s.place ≤ x.place) where
-    pub against-gone : g ≡ true → Wrong ≡ against s x g
-    unfolding against
-    against-gone e = rw (le-ltb x.place s.place h, e)
-
-    module _ (e : g ≡ false) where
-      pub against-place : (s.place ≡ x.place → ⊥) → Wrong ≡ against s x g
-      unfolding against
-      against-place n = rw (le-ltb x.place s.place h, e, ne_eqb s.place x.place n)
-
-      module _ (p : s.place ≡ x.place) where
-        pub against_klen : (s.klen ≡ x.klen → ⊥) → Wrong ≡ against s x g
-        unfolding against
-        against_klen n = rw (le-ltb x.place s.place h, e, eq-eqb s.place x.place p, ne_eqb s.klen x.klen n)
-
-        module _ (k : s.klen ≡ x.klen) where
-          pub against_vlen : (s.vlen ≡ x.vlen → ⊥) → Wrong ≡ against s x g
-          unfolding against
-          against_vlen n = rw (le-ltb x.place s.place h, e, eq-eqb s.place x.place p, eq-eqb s.klen x.klen k, ne_eqb s.vlen x.vlen n)
-
-          pub against-exact : s.vlen ≡ x.vlen → Exact ≡ against s x g
-          unfolding against
-          against-exact v = rw (le-ltb x.place s.place h, e, eq-eqb s.place x.place p, eq-eqb s.klen x.klen k, eq-eqb s.vlen x.vlen v)
 
 module _ (log t : List ℕ) (n : ℕ) (s : Seen) (is : List Item) {key : List ℕ} {f : Result ℕ ℕ} (k : key ≡ key_of log s.slot) (e : f ≡ place_of log key (slots_of n t)) where
   placed : f ≡ place_of log (key_of log s.slot) (slots_of n t)

@@ -1,14 +1,15 @@
 -- The verdict on agreement: what each refusal and the count at the end say, both ways. Assumes nothing.
 use Prim.Native.Nat.{ℕ, zero, suc, ◌-◌, ◌*◌, ◌≤◌}
-use mathlib.Core.Path.{◌≡◌, refl, sym, ap, ◌∙◌}
+use mathlib.Core.Path.{◌≡◌, refl, sym, ap, subst, ◌∙◌}
 use mathlib.Core.Bool.{Bool, true, false}
 use mathlib.Core.List.{List, [], ◌∷◌, ◌++◌}
 use native.Mathlib.Omega.{arith}
 use lib.Dec.{eqb}
-use lib.ListN.{length, drop, replicate, length-drop}
-use lib.Seq.{drop_at}
+use lib.ListN.{length, take, drop, replicate, length-drop}
+use lib.Seq.{drop_at, take_all}
 use borrow.Author.Tests.{eq-eqb, eqb-true}
 use Rattle.std.specs.Prelude.{Option, ℕ, None, Some}
+use Rattle.std.specs.Option.{option_eq}
 use Rattle.std.specs.declared.cmp.Ordering.{Ordering}
 use Rattle.std.specs.declared.cmp.Ordering.TheVariants.{Less, Equal, Greater}
 use Rattle.keycode.specs.Tests.{pick}
@@ -142,6 +143,17 @@ module _ (log : List ℕ) (used : ℕ) (t : List ℕ) {n : ℕ} (c : n ≡ count
                 };
             so_yes = λ g. eq-eqb m n (let z = walk_ends g in cc);
           }
+
+  -- the part of the words that was looked at is all behind the slots
+  pub zeros_behind : {b : Bool} → b ≡ zeroed (take (length t - slot_words * n) (drop (slot_words * n) t)) → b ≡ zeroed (drop (slot_words * n) t)
+  zeros_behind e = e ∙ ap zeroed (take_all (length t - slot_words * n) (drop (slot_words * n) t) (let d = length-drop (slot_words * n) t in omega arith))
+
+  -- every test passed: the walk's answer decides
+  module _ {a b d : Bool} (sound : a ≡ fit (length log) used (length t)) (fits : a ≡ true) (zeros : b ≡ zeroed (drop (slot_words * n) t)) (clear : b ≡ true)
+      (rises : d ≡ risen log (slots_of n t)) (sorted : d ≡ true) where
+    pub tell_walked : (w : Option ℕ) {r : Bool} → w ≡ walked_in log used (slots_of n t) 0 (items log used 0) → r ≡ option_eq eqb w (Some n) → Tells log used t r
+    tell_walked None {r} q e = subst (λ (x : Bool). Tells log used t x) (sym e) (tell_broken q refl)
+    tell_walked (Some m) {r} q e = subst (λ (x : Bool). Tells log used t x) (sym e) (tell_count q sound fits zeros clear rises sorted m refl)
 
 -- the answer is one
 pub tells_unique : (log : List ℕ) (used : ℕ) (t : List ℕ) (a b : Bool) → Tells log used t a → Tells log used t b → a ≡ b

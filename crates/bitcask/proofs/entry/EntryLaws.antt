@@ -6,7 +6,7 @@ use mathlib.Core.List.{List, [], ◌∷◌, ◌++◌, append_assoc, append-nil}
 use native.Mathlib.Numerals.{add-one}
 use native.Mathlib.Omega.{arith}
 use lib.ListN.{length, take, drop, get_or, set, length-append}
-use lib.Seq.{drop-cons, take_at, drop_at, length-take-le}
+use lib.Seq.{drop-drop, drop-cons, take_at, drop_at, length-take-le}
 use Rattle.keycode.specs.Limits.{max_log}
 use Rattle.keycode.specs.Number.{be}
 use Rattle.keycode.specs.Buffer.{put}
@@ -35,6 +35,13 @@ module _ (src : List ℕ) (i : ℕ) {d : List ℕ} {at : ℕ} {all out : List �
   pub copy_turn : Laying d at all (set out o (get_or src i 0)) (o + 1) (drop (i + 1) src)
   copy_turn =
       lay-more w (get_or src i 0 ∷ []) (drop (i + 1) src) (set out o (get_or src i 0)) (o + 1) next_byte refl (set-put out o (get_or src i 0) copy_room)
+
+-- a part with a run copied over it
+pub part_laid : (d : List ℕ) (at : ℕ) (xs : List ℕ) {x : List ℕ} → x ≡ xs → take at d ++ (x ++ drop (at + length xs - at) (drop at d)) ≡ put d at xs
+unfolding put
+part_laid d at xs e =
+    let n : at + length xs - at ≡ length xs = omega arith in
+    rw (e, n, drop-drop (length xs) at d) (simp append_assoc)
 
 -- a run that one call laid behind another's
 laid_more : (d : List ℕ) (at : ℕ) {d₁ d₂ : List ℕ} {o : ℕ} (xs ys : List ℕ) → at + length xs ≤ length d → o ≡ at + length xs

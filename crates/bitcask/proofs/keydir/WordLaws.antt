@@ -1,14 +1,14 @@
 -- Laws of words copied within a table: that the library's `copy_within` is that, a turn of a loop that moves by w words or clears, a run
--- laid right before another, and that a part of a table cleared is one of the whole. Assumes nothing.
-use Prim.Native.Nat.{ℕ, suc, ◌+◌, ◌-◌, ◌<◌, ◌≤◌}
+-- laid right before another, and that a part of a table moved or cleared is one of the whole. Assumes nothing.
+use Prim.Native.Nat.{ℕ, zero, suc, ◌+◌, ◌-◌, ◌<◌, ◌≤◌}
 use mathlib.Core.Path.{◌≡◌, refl, sym, ap, ◌∙◌}
 use mathlib.Core.List.{List, [], ◌∷◌, ◌++◌, append_assoc, append-nil}
 use native.Mathlib.Omega.{arith}
-use native.Mathlib.Nat.{add_assoc}
+use native.Mathlib.Nat.{add_assoc, zero-add, suc-add}
 use native.Mathlib.Numerals.{add-one}
 use borrow.Author.Fill.{fill_more}
 use lib.ListN.{length, take, drop, get_or, set, replicate, length-append, length-take, length-drop, length-replicate, get_or-append, drop_of_length-le}
-use lib.Seq.{drop-drop, take-add, slice, slice_empty, slice-cons, take-suc, length-take-le, get_or-take, get_or-drop, get_or-append-add, drop-append-le, length-slice, take-append-le, take-take, drop_at}
+use lib.Seq.{drop-drop, take-add, take_all, take-nil, drop-nil, slice, slice_empty, slice-cons, take-suc, length-take-le, get_or-take, get_or-drop, get_or-append-add, drop-append-le, length-slice, take-append-le, take-take, drop_at}
 use Rattle.std.specs.List.{copy_within}
 use Rattle.keycode.specs.Buffer.{put}
 use Rattle.keycode.proofs.BufferLaws.{set-put, put-none, put-before, put-put, length-put}
@@ -104,6 +104,47 @@ module _ (w : ℕ) (l : List ℕ) where
   pub down_turn : (x : List ℕ) (f j : ℕ) → x ≡ copied l (f + w) (j + w) f → f ≤ j → j + w < length l → set x j (get_or x (j + w) 0) ≡ copied l (f + w) (j + 1 + w) f
   down_turn x f j e h k = rw e (down_more f j h k)
 
+-- ---- a move within a part is one within the whole
+
+put_part : (l : List ℕ) (at g : ℕ) (xs : List ℕ) → take at l ++ put (drop at l) g xs ≡ put l (at + g) xs
+unfolding put
+put_part l at g xs =
+    rw (drop-drop (g + length xs) at l, take-add at g l)
+    (simp (append_assoc, add_assoc))
+
+part_slice : (l : List ℕ) (at f t : ℕ) → slice f t (drop at l) ≡ slice (at + f) (at + t) l
+part_slice l zero f t = rw (zero-add f, zero-add t)
+part_slice [] (suc at) f t = rw (take-nil t, take-nil (suc at + t), drop-nil f, drop-nil (suc at + f))
+part_slice (x ∷ l) (suc at) f t = rw (suc-add at f, suc-add at t) (part_slice l at f t)
+
+copied_part : (l : List ℕ) (at f t g : ℕ) → take at l ++ copied (drop at l) f t g ≡ copied l (at + f) (at + t) (at + g)
+unfolding copied
+copied_part l at f t g = rw (part_slice l at f t) (put_part l at g (slice (at + f) (at + t) l))
+
+-- what a call on the part from index at on leaves of the whole
+pub lent : (l : List ℕ) (at f t g : ℕ) {x : List ℕ} → x ≡ copied (take (length l - at) (drop at l)) f t g
+    → take at l ++ (x ++ drop (length l - at) (drop at l)) ≡ copied l (at + f) (at + t) (at + g)
+lent l at f t g e =
+    let n : length (drop at l) ≡ length l - at = length-drop at l in
+    rw (e, take_all (length l - at) (drop at l) (omega arith), drop_of_length-le (drop at l) {i = length l - at} (omega arith), append-nil) (copied_part l at f t g)
+
+-- the library's move of the first n words of a part
+module _ (w : ℕ) (l : List ℕ) (at n : ℕ) where
+  part_long : at + n ≤ length l → n ≤ length (take (length l - at) (drop at l))
+  part_long h = let d = length-drop at l in omega (arith, length-take-le (length l - at) (drop at l) (omega arith))
+
+  pub part_up : at + n ≤ length l → {x : List ℕ} → x ≡ copy_within (take (length l - at) (drop at l)) 0 n w
+      → take at l ++ (x ++ drop (length l - at) (drop at l)) ≡ copied l at (at + n) (at + w)
+  part_up h e =
+      let p : at + 0 ≡ at = omega arith in
+      lent l at 0 n w (within_is (take (length l - at) (drop at l)) 0 n w (omega arith) (part_long h) e) ∙ rw p refl
+
+  pub part_down : w ≤ n → at + n ≤ length l → {x : List ℕ} → x ≡ copy_within (take (length l - at) (drop at l)) w n 0
+      → take at l ++ (x ++ drop (length l - at) (drop at l)) ≡ copied l (at + w) (at + n) at
+  part_down g h e =
+      let p : at + 0 ≡ at = omega arith in
+      lent l at w n 0 (within_is (take (length l - at) (drop at l)) w n 0 g (part_long h) e) ∙ rw p refl
+
 -- a part, cleared
 module _ (l : List ℕ) (at end : ℕ) (h : at ≤ end) (g : end ≤ length l) {x : List ℕ} (e : x ≡ replicate (length (take (end - at) (drop at l))) 0) where
   pub cleared : take at l ++ (x ++ drop (end - at) (drop at l)) ≡ put l at (replicate (end - at) 0)
@@ -113,8 +154,3 @@ module _ (l : List ℕ) (at end : ℕ) (h : at ≤ end) (g : end ≤ length l) {
       let n : length (take (end - at) (drop at l)) ≡ end - at = length-take-le (end - at) (drop at l) (omega arith) in
       let r : length (replicate {A = ℕ} (end - at) 0) ≡ end - at = length-replicate (end - at) 0 in
       rw (e, n, drop-drop (end - at) at l, r) (simp append_assoc)
-
-  pub cleared-long : length (take at l ++ (x ++ drop (end - at) (drop at l))) ≡ length l
-  cleared-long =
-      let r : length (replicate {A = ℕ} (end - at) 0) ≡ end - at = length-replicate (end - at) 0 in
-      ap length cleared ∙ length-put l at (replicate (end - at) 0) (omega arith)

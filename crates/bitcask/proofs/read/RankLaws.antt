@@ -1,6 +1,6 @@
 -- Ranks and bounds by what the search found. Assumes nothing.
 use Prim.Native.Nat.{ℕ, ◌+◌, ◌≤◌, ◌<◌}
-use mathlib.Core.Path.{◌≡◌, sym, ◌∙◌}
+use mathlib.Core.Path.{◌≡◌, refl, sym, ◌∙◌}
 use mathlib.Core.List.{List}
 use native.Mathlib.Omega.{arith}
 use Rattle.std.specs.Prelude.{Result, ℕ, Ok, Err}
@@ -11,7 +11,7 @@ use Rattle.bitcask.proofs.keydir.SlotLaws.{slots_length}
 use Rattle.bitcask.proofs.keydir.PlaceLaws.{place_at, place-before}
 use Rattle.bitcask.specs.declared.answers.Bound.{Bound}
 use Rattle.bitcask.specs.declared.answers.Bound.TheVariants.{Included, Excluded, Unbounded}
-use Rattle.bitcask.specs.read.Ranks.{below, upto, from_bound, upto_bound}
+use Rattle.bitcask.specs.read.Ranks.{before_at, below, upto, from_bound, upto_bound}
 
 module _ (log key t : List ℕ) (n : ℕ) (f : Result ℕ ℕ) (says : f ≡ place_of log key (slots_of n t)) where
   module _ (i : ℕ) where
@@ -36,6 +36,10 @@ module _ (log key t : List ℕ) (n : ℕ) (f : Result ℕ ℕ) (says : f ≡ pla
     pub upto_before : f ≡ Err i → (i ≡ upto log key (slots_of n t)) × (i ≤ n)
     unfolding upto
     upto_before e = (rw (← says, e), found_before e)
+
+pub below_says : (log key t : List ℕ) (n : ℕ) (f : Result ℕ ℕ) → f ≡ place_of log key (slots_of n t) → {r : ℕ} → r ≡ before_at f → (r ≡ below log key (slots_of n t)) × (r ≤ n)
+below_says log key t n (Ok i) e q = rw q (below_at log key t n (Ok i) e i refl)
+below_says log key t n (Err i) e q = rw q (below-before log key t n (Err i) e i refl)
 
 -- a bound is the rank that it names
 module _ (b : Bound) (log key : List ℕ) (ss : List Slot) (n r : ℕ) where

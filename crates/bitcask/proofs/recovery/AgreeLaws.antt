@@ -1,6 +1,6 @@
 -- Laws of a request's sizes and of a table that agrees with its log: what it says, that the log decides it, and what an entry more at
 -- the end of the log does. Assumes nothing.
-use Prim.Native.Nat.{ℕ, ◌+◌, ◌*◌, ◌/◌, ◌%◌, ◌≤◌, ◌<◌}
+use Prim.Native.Nat.{ℕ, ◌+◌, ◌*◌, ◌/◌, ◌%◌, ◌≤◌}
 use mathlib.Core.Path.{◌≡◌, refl, sym, ap, ◌∙◌, subst}
 use mathlib.Core.Bool.{Bool, true, false}
 use Rattle.std.specs.Prelude.{Some, Option}
@@ -9,7 +9,7 @@ use native.Mathlib.Omega.{arith}
 use lib.Dec.{leb, eqb}
 use lib.ListN.{length, take, drop, length-append, length-replicate}
 use lib.Seq.{take_at, length-take-le}
-use borrow.Author.Tests.{le-leb, lt-leb, leb-true, eq-eqb, eqb-true}
+use borrow.Author.Tests.{le-leb, leb-true, eq-eqb, eqb-true}
 use Rattle.keycode.specs.Tests.{pick}
 use Rattle.keycode.specs.Limits.{max_log}
 use Rattle.keycode.specs.Buffer.{put}
@@ -34,19 +34,9 @@ use Rattle.bitcask.proofs.recovery.FoldLaws.{recovered-inside, recovered-sorted,
 
 -- ---- the sizes of a request
 
-module _ (size used words : ℕ) where
-  pub fit_large : max_log < size → false ≡ fit size used words
-  unfolding fit
-  fit_large h = rw (lt-leb size max_log h)
-
-  module _ (small : size ≤ max_log) where
-    pub fit-past : size < used → false ≡ fit size used words
-    unfolding fit
-    fit-past h = rw (le-leb size max_log small, lt-leb used size h)
-
-    pub fit_rest : used ≤ size → eqb (words % slot_words) 0 ≡ fit size used words
-    unfolding fit
-    fit_rest h = rw (le-leb size max_log small, le-leb used size h)
+fit_rest : (size used words : ℕ) → size ≤ max_log → used ≤ size → eqb (words % slot_words) 0 ≡ fit size used words
+unfolding fit
+fit_rest size used words small h = rw (le-leb size max_log small, le-leb used size h)
 
 -- what the sizes say when they are right
 pub record Sound (size used words : ℕ) : Type 0 where

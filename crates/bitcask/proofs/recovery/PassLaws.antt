@@ -4,7 +4,7 @@ use mathlib.Core.Path.{◌≡◌, refl, sym, ap, ◌∙◌, subst}
 use Rattle.std.specs.Prelude.{Result, Ok, Err, Option, None, Some}
 use mathlib.Core.List.{List, [], ◌∷◌}
 use native.Mathlib.Omega.{arith}
-use lib.ListN.{length, replicate}
+use lib.ListN.{length}
 use Rattle.keycode.proofs.Basics.{nope}
 use Rattle.bitcask.specs.entry.Reading.{entry_at}
 use Rattle.bitcask.specs.declared.keydir.slots.Slot.{Slot}
@@ -21,8 +21,7 @@ use Rattle.keycode.specs.declared.refusal.Refusal.{Refusal}
 use Rattle.keycode.specs.declared.refusal.Refusal.TheVariants.{TableFull}
 use Rattle.bitcask.specs.recovery.Recover.{Item, item_of, next, items_of, ends, step_in, then_run, run}
 use Rattle.bitcask.specs.recovery.Waiting.{max_waiting, Holds, Enters, Settles}
-use Rattle.bitcask.specs.recovery.Passing.{standing, TakesEntry, Tidy, passed_by, GoesOver, Passes}
-use Rattle.bitcask.specs.recovery.Promises.{opened_words}
+use Rattle.bitcask.specs.recovery.Passing.{standing, TakesEntry, Tidy, passed_by, GoesOver}
 use Rattle.bitcask.proofs.recovery.ItemLaws.{item_stands}
 use Rattle.bitcask.proofs.recovery.SettleLaws.{merges_alone}
 use Rattle.bitcask.proofs.recovery.TakeLaws.{full-says, next-says}
@@ -246,20 +245,3 @@ module _ {log : List ℕ} {used : ℕ} {t : List ℕ} {n start most : ℕ} {x pd
       → GoesOver log used t n start most (Ok (record { at = at; count = h'.count; left = left })) x'
   unfolding items_of
   passing_spent z l q v = let e : left ≡ 0 = omega arith in passing_end (ap (λ (k : ℕ). items_of k log used at) e) l q v
-
--- ---- and with a table that has no room for one cleared
-
-module _ (log : List ℕ) (used : ℕ) (t : List ℕ) (n start most : ℕ) {x : List ℕ} where
-  pub passes_on : {p : Passed} → GoesOver log used t n start most (Ok p) x → Passes log used t n start most (Ok p) x
-  passes_on {p} g = record { within = g.within; answer = g.answer; table = λ ss y. go ss y (run log (length t / slot_words) (items_of most log used start) ss) refl }
-    where
-      go : (ss : List Slot) → Tidy log t n ss → (o : Option (List Slot)) → run log (length t / slot_words) (items_of most log used start) ss ≡ o → x ≡ opened_words (length t) o
-      go ss y None e = nope (cc (rw e at (g.answer ss y)))
-      go ss y (Some rs) e = g.table ss y rs e
-
-  pub passes_cleared : {f : Refusal} {z : List ℕ} → GoesOver log used t n start most (Err f) x → z ≡ replicate (length x) 0 → length x ≡ length t → Passes log used t n start most (Err f) z
-  passes_cleared {f} {z} g ez l = record { within = g.within; answer = g.answer; table = λ ss y. go ss y (run log (length t / slot_words) (items_of most log used start) ss) refl }
-    where
-      go : (ss : List Slot) → Tidy log t n ss → (o : Option (List Slot)) → run log (length t / slot_words) (items_of most log used start) ss ≡ o → z ≡ opened_words (length t) o
-      go ss y None e = ez ∙ ap (λ (k : ℕ). replicate k 0) l
-      go ss y (Some rs) e = nope (cc (rw e at (g.answer ss y)))

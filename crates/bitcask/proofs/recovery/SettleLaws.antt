@@ -1,14 +1,11 @@
 -- Laws of the changes brought in, and of the small tests of what waits. Assumes nothing.
-use Prim.Native.Nat.{ℕ, ◌*◌, ◌/◌, ◌≤◌, ◌<◌}
+use Prim.Native.Nat.{ℕ, ◌*◌, ◌/◌, ◌≤◌}
 use mathlib.Core.Path.{◌≡◌, refl, sym, ap, ◌∙◌, subst}
 use mathlib.Core.Bool.{Bool, false}
 use mathlib.Core.List.{List}
 use native.Mathlib.Omega.{arith}
-use lib.Dec.{ltb}
 use lib.ListN.{length}
-use borrow.Author.Tests.{lt-ltb, le-ltb}
 use Rattle.std.specs.Prelude.{Result, ℕ, Ok, Err}
-use Rattle.keycode.specs.Tests.{pick}
 use Rattle.bitcask.specs.declared.keydir.slots.Slot.{Slot}
 use Rattle.bitcask.specs.keydir.Slots.{slot_words, slot_at, slots_of, table_of, key_of}
 use Rattle.bitcask.specs.keydir.Place.{place_of, Among, Sorted, sorted_none, laid, Becomes}
@@ -52,12 +49,6 @@ settles log t pd h {n} {t'} tr v = record { within = v.within; exact = exactly }
         }
 
 -- ---- small tests
-
-pub last_no : (place count slots : ℕ) → place < count → false ≡ pick (ltb place count) false (ltb count slots)
-last_no place count slots h = rw (lt-ltb place count h)
-
-pub last_yes : (place count slots : ℕ) → count ≤ place → ltb count slots ≡ pick (ltb place count) false (ltb count slots)
-last_yes place count slots h = rw (le-ltb place count h)
 
 module _ (pd : List ℕ) (n : ℕ) (f : Result ℕ ℕ) (i : ℕ) where
   pub waits_at : {b : Bool} {s : Slot} → Among n f → f ≡ Ok i → s ≡ slot_at pd i → b ≡ is_gone s → b ≡ waits_gone (slots_of n pd) f

@@ -66,11 +66,6 @@ module _ (log : List ℕ) (used : ℕ) (t pd : List ℕ) (h : Held) (at : ℕ) {
     pub del-inside : (k : ℕ) → e ≡ (Some (Del k)) → at + 8 + k ≤ used
     del-inside k q = let w = entry-within log used at (sym er ∙ q) u in omega arith
 
-  pub entry-stop : e ≡ None → TakesEntry log used t pd h at (Ok None) t pd
-  entry-stop q =
-      let p : entry_at log used at ≡ None = sym er ∙ q in
-      record { entry = λ i f. nope (cc (ap (λ (x : Option Lengths). item_of x at) p)); stop = λ f. (refl, refl, refl) }
-
   pub entry_set : (k v : ℕ) {s : Slot} {a : Result Next Refusal} {o : Result (Option Next) Refusal} {t' pd' : List ℕ} → e ≡ (Some (Set k v))
       → s ≡ record { place = at + 1; klen = k; vlen = v }
       → Enters log t pd h (record { slot = s; gone = false }) (at + 8 + k + v) a t' pd' → o ≡ standing a → TakesEntry log used t pd h at o t' pd'

@@ -1,4 +1,4 @@
--- What the yes/no on agreement promises: true exactly where the table agrees with the log. Document 01, 'What nobody may fake'.
+-- What the yes/no on agreement promises: true exactly where the table agrees with the log.
 -- Assumes nothing.
 use Rattle.std.specs.Prelude.{ℕ, ◌≡◌, Bool, true, List}
 use Rattle.bitcask.specs.recovery.Agree.{Agrees}

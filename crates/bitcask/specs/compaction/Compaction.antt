@@ -1,4 +1,4 @@
--- What a compaction writes and what the status counts: both of the map. Document 01, 'Log entries and recovery'. Assumes nothing.
+-- What a compaction writes and what the status counts: both of the map. Assumes nothing.
 use Rattle.std.specs.Prelude.{ℕ, ◌+◌, ◌*◌, ◌≡◌, List, [], ◌∷◌, leb, length, Option, Some, None}
 use Rattle.keycode.specs.Tests.{pick}
 use Rattle.keycode.specs.Buffer.{put}

@@ -1,4 +1,4 @@
--- An entry of the log and its bytes. Document 01, 'Log entries and recovery'. Assumes nothing.
+-- An entry of the log and its bytes. Assumes nothing.
 use Rattle.std.specs.Prelude.{ℕ, ◌+◌, ◌-◌, ◌^◌, List, [], ◌++◌, length}
 use Rattle.keycode.specs.Number.{be}
 

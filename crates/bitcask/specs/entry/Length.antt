@@ -1,4 +1,4 @@
--- The value length that 32 bits of an entry state. Document 01, 'Log entries and recovery': any negative one is a tombstone.
+-- The value length that 32 bits of an entry state. Any negative one is a tombstone.
 -- `len_of` is the only place where the sign is tested. Assumes nothing.
 use Rattle.std.specs.Prelude.{ℕ, suc, ◌-◌, ◌^◌, ltb, ℤ, pos, negsuc, Option, Some, None}
 use Rattle.keycode.specs.Tests.{pick}

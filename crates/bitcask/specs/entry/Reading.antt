@@ -1,4 +1,4 @@
--- What stands at an offset of a log of which `used` bytes count. Document 01, 'Log entries and recovery': an entry that ends exactly
+-- What stands at an offset of a log of which `used` bytes count. An entry that ends exactly
 -- at the used length is whole, one that runs past it is none. Assumes nothing.
 use Rattle.std.specs.Prelude.{ℕ, ◌+◌, List, leb, length, take, drop, Option, Some, None}
 use Rattle.keycode.specs.Tests.{pick}

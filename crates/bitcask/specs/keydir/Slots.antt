@@ -1,4 +1,4 @@
--- The slots of a table and their words (document 01, 'Sizes'). `slot_head`, `words_of` and `slot_words` alone know how a slot lies in
+-- The slots of a table and their words. `slot_head`, `words_of` and `slot_words` alone know how a slot lies in
 -- words. Every definition is total: words that are missing are 0, and parts of a log end where the log does. Assumes nothing.
 use Rattle.std.specs.Prelude.{ℕ, zero, suc, ◌+◌, ◌-◌, ◌*◌, List, [], ◌∷◌, ◌++◌, length, take, drop, get_or, replicate}
 use Rattle.bitcask.specs.declared.keydir.slots.Slot.{Slot}

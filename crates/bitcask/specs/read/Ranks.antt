@@ -1,4 +1,4 @@
--- Ranks of keys and bounds of scans, of slots as the code finds them and of the map in document 01's words. A lower bound is the number
+-- Ranks of keys and bounds of scans, of slots as the code finds them and of the map. A lower bound is the number
 -- of the first pair that it admits, an upper one the number past the last; a scan step gives the first number that lies between.
 -- Assumes nothing.
 use Rattle.std.specs.declared.cmp.Ordering.{Ordering}

@@ -1,4 +1,4 @@
--- A request's sizes, and the agreement of a table with its log. Document 01, 'Numbers returned', row 13, and 'What nobody may fake'.
+-- A request's sizes, and the agreement of a table with its log.
 -- Assumes nothing.
 use Rattle.std.specs.Prelude.{ℕ, ◌%◌, ◌≡◌, Bool, true, false, List, leb, eqb, length}
 use Rattle.keycode.specs.Tests.{pick}

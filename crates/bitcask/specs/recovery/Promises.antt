@@ -1,4 +1,4 @@
--- What opening promises: an equation for every log, used length and table. Document 01: 13 first, then 8 at the first entry whose new
+-- What opening promises: an equation for every log, used length and table. 13 first, then 8 at the first entry whose new
 -- key finds no free slot; a refused opening sets every word to 0 and cuts nothing; one that is done cuts the used length to the end of
 -- the last whole entry. Assumes nothing.
 use Rattle.bitcask.specs.declared.request.Used.{Used}

@@ -1,4 +1,4 @@
--- Recovery. Document 01, 'Log entries and recovery': the entries from offset 0 on, up to the first that runs past the used length; a
+-- Recovery: the entries from offset 0 on, up to the first that runs past the used length; a
 -- later entry of a key replaces an earlier one, a tombstone removes it. `recovered` is what everything else cites: it has no room to
 -- run out of. `run` is the same with room for so many slots, which only the opening knows. Assumes nothing.
 use Rattle.std.specs.Prelude.{ℕ, zero, suc, ◌+◌, ◌-◌, Bool, true, false, List, [], ◌∷◌, leb, ltb, length, Result, Ok, Err, Option, None, Some}

@@ -6,8 +6,8 @@ use crate::entry::length::value_len;
 use keycode::number::get_number;
 use keycode::parts::clip;
 
-// A whole entry with a value, a whole tombstone, or neither: the used length, or an entry that runs past it.
-#[derive(Clone, Copy)]
+// A whole entry with a value, or a whole tombstone.
+#[derive(Clone, Copy, Debug, PartialEq, Eq)]
 pub enum Lengths {
     Set { klen: usize, vlen: usize },
     Del { klen: usize },
@@ -20,6 +20,7 @@ fn word_at(log: &[u8], at: usize) -> u32
     get_number(clip(log, at, 4)) as u32
 }
 
+// What stands at an offset; None at the used length, and where an entry runs past it.
 pub fn entry_at(log: &[u8], used: usize, at: usize) -> Option<Lengths>
     requires { at ≤ used }
     ensures { result ≡ entry_at log.now used at }
@@ -34,13 +35,8 @@ pub fn entry_at(log: &[u8], used: usize, at: usize) -> Option<Lengths>
         return None;
     }
     match value_len(word_at(log, at + 4)) {
-        Some(vlen) => {
-            if room - klen < vlen {
-                None
-            } else {
-                Some(Lengths::Set { klen, vlen })
-            }
-        }
+        Some(vlen) if room - klen < vlen => None,
+        Some(vlen) => Some(Lengths::Set { klen, vlen }),
         None => Some(Lengths::Del { klen }),
     }
 }

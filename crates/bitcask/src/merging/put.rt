@@ -5,14 +5,12 @@ ghost use Rattle.bitcask.specs.keydir.Slots.{slot_words, slots_of};
 ghost use Rattle.bitcask.specs.merging.Merge.{is_gone, new_of, news};
 ghost use Rattle.bitcask.specs.merging.Passes.{PutsNext, PutsAll};
 
+use crate::entry::GONE;
 use crate::keydir::slots::store;
 use crate::keydir::{SLOT_WORDS, Slot, key_of, slot_at};
 use crate::rank::below;
 
-// The value length of a waiting slot whose key is to go.
-pub(crate) const GONE: u32 = 0xffff_ffff;
-
-// Whether a waiting slot's key is to go.
+// Whether a waiting slot's key is to go: its value length is a tombstone's.
 pub(crate) fn is_gone(s: Slot) -> bool
     ensures { result ≡ is_gone s }
 {

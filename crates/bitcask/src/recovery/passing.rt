@@ -7,9 +7,8 @@ ghost use Rattle.bitcask.specs.merging.Merge.{gone_mark};
 ghost use Rattle.bitcask.specs.recovery.Waiting.{max_waiting};
 ghost use Rattle.bitcask.specs.recovery.Passing.{TakesEntry, GoesOver, Passes};
 
-use crate::entry::{Lengths, entry_at};
+use crate::entry::{GONE, Lengths, entry_at};
 use crate::keydir::{SLOT_WORDS, Slot};
-use crate::merging::GONE;
 use crate::recovery::waiting::{Held, MAX_WAITING, Next, make_room, settle, take_del, take_set};
 use keycode::Refusal;
 
@@ -21,27 +20,14 @@ pub struct Passed {
     pub left: usize,
 }
 
-// The slot of an entry at an offset.
-fn slot_for(at: usize, klen: usize, vlen: usize) -> Slot
-    requires { at + 8 + klen + vlen ≤ max_log }
-    ensures { result ≡ record { place = at + 1; klen = klen; vlen = vlen } }
-{
-    Slot {
-        place: (at + 1) as u32,
-        klen: klen as u32,
-        vlen: vlen as u32,
-    }
-}
-
 // The slot of a tombstone at an offset, marked.
 fn gone_for(at: usize, klen: usize) -> Slot
     requires { at + 8 + klen ≤ max_log }
     ensures { result ≡ record { place = at + 1; klen = klen; vlen = gone_mark } }
 {
     Slot {
-        place: (at + 1) as u32,
-        klen: klen as u32,
         vlen: GONE,
+        ..Slot::of_entry(at, klen, 0)
     }
 }
 
@@ -59,7 +45,7 @@ fn take_entry(
 {
     match entry_at(log, used, at) {
         Some(Lengths::Set { klen, vlen }) => {
-            let s = slot_for(at, klen, vlen);
+            let s = Slot::of_entry(at, klen, vlen);
             let next = take_set(log, table, pend, h, s, at + 8 + klen + vlen)?;
             Ok(Some(next))
         }

@@ -23,4 +23,4 @@ pub returns : goal.returns
 returns c =
     let a = c.args in
     appended-is a.log.now a.table.now a.mark.used a.mark.count (set_entry a.key.now (a.head.now ++ a.body.now)) _ _ _ _ c.put_set-used.ensures.1 c.put_set-used.ensures.0
-    (set_becomes a.log.now a.table.now a.mark.used a.mark.count a.key.now a.head.now a.body.now _ _ _ c.find-found.ensures c.enter-n.ensures)
+    (set_becomes a.log.now a.table.now a.mark.used a.mark.count a.key.now a.head.now a.body.now _ _ _ c.find-found.ensures c.of_entry-slot.ensures c.enter-n.ensures)

@@ -5,15 +5,16 @@ use lib.ListN.{length}
 use Rattle.bitcask.specs.entry.Entry.{set as set_entry}
 use Rattle.bitcask.proofs.keydir.CountLaws.{count-within}
 use Rattle.bitcask.proofs.recovery.AgreeLaws.{fit-sound}
+use Rattle.std.proofs.lemmas.Result.{err_from_is_err_and}
 use Rattle.bitcask.proofs.change.ChangeLaws.{change_bad, change_refused, change_room, change_done, judged_by_lem, fresh_by, count_fits}
 use native.Mathlib.Omega.{arith}
 use Rattle.bitcask.proofs.change.set.Goals as goal
 
-pub returns-then-not-good : goal.returns-then-not-good
-returns-then-not-good c = let a = c.args in change_bad a.log.now a.used.len a.table.now (set_entry a.key.now a.value.now) (sym c.fits-good.ensures ∙ c.if-not-good.true)
+pub returns-then-not-fits : goal.returns-then-not-fits
+returns-then-not-fits c = let a = c.args in change_bad a.log.now a.used.len a.table.now (set_entry a.key.now a.value.now) (sym c.fits.ensures ∙ c.if-not-fits.true)
 
 pub overflow_sub-log : goal.overflow_sub-log
-overflow_sub-log c = let a = c.args in (fit-sound (length a.log.now) a.used.len (length a.table.now) (sym c.fits-good.ensures ∙ c.if-not-good.false)).within
+overflow_sub-log c = let a = c.args in (fit-sound (length a.log.now) a.used.len (length a.table.now) (sym c.fits.ensures ∙ c.if-not-fits.false)).within
 
 pub fresh-requires : goal.fresh-requires
 fresh-requires c = omega (arith, count-within c.args.table.now, c.count-n.ensures)
@@ -24,28 +25,29 @@ overflow_sub-table c = count_fits c.args.table.now _ c.count-n.ensures
 pub append_set-mark-requires : goal.append_set-mark-requires
 append_set-mark-requires c =
     let a = c.args in
-    let w = change_room a.log.now a.used.len a.table.now (set_entry a.key.now a.value.now) (sym c.fits-good.ensures ∙ c.if-not-good.false) _
+    let w = change_room a.log.now a.used.len a.table.now (set_entry a.key.now a.value.now) (sym c.fits.ensures ∙ c.if-not-fits.false) _
     (judged_by_lem a.log.now a.used.len a.table.now (set_entry a.key.now a.value.now) _ _ _ _ c.count-n.ensures c.room_after-room.ensures
-    (fresh_by a.log.now a.table.now a.key.now _ _ c.count-n.ensures c.fresh.ensures) c.judged.ensures) c.in-Ok.is in
+    (fresh_by a.log.now a.table.now a.key.now _ _ c.count-n.ensures c.fresh.ensures) c.judged.ensures) c.in_ok-judged.was in
     (omega (arith, w.0), w.1, omega (arith, count-within a.table.now, c.count-n.ensures))
 
-pub returns-in-Err : goal.returns-in-Err
-returns-in-Err c =
+pub returns-in_err-judged : goal.returns-in_err-judged
+returns-in_err-judged c =
     let a = c.args in
-    change_refused a.log.now a.used.len a.table.now (set_entry a.key.now a.value.now) (sym c.fits-good.ensures ∙ c.if-not-good.false) _
+    let p = err_from_is_err_and c.from_residual.result c.from_residual.ensures.1 in
+    rw (p.1, p.2) (change_refused a.log.now a.used.len a.table.now (set_entry a.key.now a.value.now) (sym c.fits.ensures ∙ c.if-not-fits.false) _
     (judged_by_lem a.log.now a.used.len a.table.now (set_entry a.key.now a.value.now) _ _ _ _ c.count-n.ensures c.room_after-room.ensures
-    (fresh_by a.log.now a.table.now a.key.now _ _ c.count-n.ensures c.fresh.ensures) c.judged.ensures) _ c.in-Err.is
+    (fresh_by a.log.now a.table.now a.key.now _ _ c.count-n.ensures c.fresh.ensures) c.judged.ensures) _ c.in_err-judged.was)
 
-pub shape_of-log-in-Ok : goal.shape_of-log-in-Ok
-shape_of-log-in-Ok c = c.append_set-mark.auto.log
+pub shape_of-log : goal.shape_of-log
+shape_of-log c = c.append_set-mark.auto.log
 
-pub shape_of-table-in-Ok : goal.shape_of-table-in-Ok
-shape_of-table-in-Ok c = c.append_set-mark.auto.table
+pub shape_of-table : goal.shape_of-table
+shape_of-table c = c.append_set-mark.auto.table
 
-pub returns-in-Ok : goal.returns-in-Ok
-returns-in-Ok c =
+pub returns : goal.returns
+returns c =
     let a = c.args in
-    change_done a.log.now a.used.len a.table.now (set_entry a.key.now a.value.now) (sym c.fits-good.ensures ∙ c.if-not-good.false) _
+    change_done a.log.now a.used.len a.table.now (set_entry a.key.now a.value.now) (sym c.fits.ensures ∙ c.if-not-fits.false) _
     (judged_by_lem a.log.now a.used.len a.table.now (set_entry a.key.now a.value.now) _ _ _ _ c.count-n.ensures c.room_after-room.ensures
-    (fresh_by a.log.now a.table.now a.key.now _ _ c.count-n.ensures c.fresh.ensures) c.judged.ensures) c.in-Ok.is
+    (fresh_by a.log.now a.table.now a.key.now _ _ c.count-n.ensures c.fresh.ensures) c.judged.ensures) c.in_ok-judged.was
     _ _ _ c.count-n.ensures (ap (set_entry a.key.now) (append-nil a.value.now)) c.append_set-mark.ensures

@@ -1,34 +1,54 @@
 -- `agrees`: each test that fails rules agreement out, and the count at the end decides.
-use mathlib.Core.Path.{sym, ◌∙◌}
+use mathlib.Core.Path.{sym, subst, ◌∙◌}
+use mathlib.Core.Bool.{Bool}
 use lib.ListN.{length}
+use Rattle.keycode.proofs.Basics.{nope}
+use Rattle.bitcask.specs.check.Promises.{Tells}
 use Rattle.bitcask.proofs.keydir.CountLaws.{count-within}
 use Rattle.bitcask.proofs.recovery.AgreeLaws.{fit-sound}
-use Rattle.bitcask.proofs.check.VerdictLaws.{tell_unfit, tell_more, tell_unsorted, tell_broken, tell_count}
+use Rattle.bitcask.proofs.check.VerdictLaws.{tell_unfit, tell_more, tell_unsorted, zeros_behind, tell_walked}
 use native.Mathlib.Omega.{arith}
 use Rattle.bitcask.proofs.check.agrees.Goals as goal
+use Rattle.bitcask.proofs.check.agrees.Goals.{then-zeros, else-zeros}
 
 pub overflow_mul-n : goal.overflow_mul-n
 overflow_mul-n c = omega (arith, count-within c.args.table.now, c.count-n.ensures)
+
+pub offset_bounds-table-n : goal.offset_bounds-table-n
+offset_bounds-table-n c = omega (arith, count-within c.args.table.now, c.count-n.ensures)
+
+pub slice_bounds-zeros-start : goal.slice_bounds-zeros-start
+slice_bounds-zeros-start c = omega (arith, count-within c.args.table.now, c.count-n.ensures)
+
+pub slice_bounds-zeros-count : goal.slice_bounds-zeros-count
+slice_bounds-zeros-count c = omega (arith, count-within c.args.table.now, c.count-n.ensures)
 
 pub rising-requires : goal.rising-requires
 rising-requires c = omega (arith, count-within c.args.table.now, c.count-n.ensures)
 
 pub walk-requires : goal.walk-requires
 walk-requires c =
-    let a = c.args in let s = fit-sound (length a.log.now) a.used.len (length a.table.now) (sym c.fits.ensures ∙ c.if-fits.true) in
+    let a = c.args in let s = fit-sound (length a.log.now) a.used.len (length a.table.now) (sym c.fits.ensures ∙ c.if-not-fits.false) in
     (omega arith, omega (arith, count-within a.table.now, c.count-n.ensures))
 
-pub returns-in-None : goal.returns-in-None
-returns-in-None c = let a = c.args in tell_broken a.log.now a.used.len a.table.now c.count-n.ensures c.walk.ensures c.in-None.is
+pub returns-then-not-fits : goal.returns-then-not-fits
+returns-then-not-fits c = let a = c.args in tell_unfit a.log.now a.used.len a.table.now c.fits.ensures c.if-not-fits.true
 
-pub returns-in-Some : goal.returns-in-Some
-returns-in-Some c = let a = c.args in tell_count a.log.now a.used.len a.table.now c.count-n.ensures c.walk.ensures c.fits.ensures c.if-fits.true c.zeros.ensures c.if-zeros.true c.rising.ensures c.if-rising.true _ c.in-Some.is
+pub returns-then-rising : goal.returns-then-rising
+returns-then-rising c =
+    let a = c.args in
+    elim c.if-zeros.branch [
+      | then-zeros w ↦
+          tell_walked a.log.now a.used.len a.table.now c.count-n.ensures c.fits.ensures c.if-not-fits.false (zeros_behind a.log.now a.used.len a.table.now c.count-n.ensures c.zeros.ensures)
+          w.if-zeros.true w.rising.ensures (sym w.value-is ∙ c.if-rising.true) _ c.walk.ensures c.eq.ensures
+      | else-zeros w ↦ nope (cc (sym w.value-is ∙ c.if-rising.true, w.if-zeros.false))
+    ]
 
 pub returns-else-rising : goal.returns-else-rising
-returns-else-rising c = let a = c.args in tell_unsorted a.log.now a.used.len a.table.now c.count-n.ensures c.rising.ensures c.if-rising.false
-
-pub returns-else-zeros : goal.returns-else-zeros
-returns-else-zeros c = let a = c.args in tell_more a.log.now a.used.len a.table.now c.count-n.ensures c.zeros.ensures c.if-zeros.false
-
-pub returns-else-fits : goal.returns-else-fits
-returns-else-fits c = let a = c.args in tell_unfit a.log.now a.used.len a.table.now c.fits.ensures c.if-fits.false
+returns-else-rising c =
+    let a = c.args in
+    let P : Bool → Type 0 = λ b. Tells a.log.now a.used.len a.table.now b in
+    elim c.if-zeros.branch [
+      | then-zeros w ↦ subst P (sym c.if-rising.false) (tell_unsorted a.log.now a.used.len a.table.now c.count-n.ensures w.rising.ensures (sym w.value-is ∙ c.if-rising.false))
+      | else-zeros w ↦ subst P (sym c.if-rising.false) (tell_more a.log.now a.used.len a.table.now c.count-n.ensures (zeros_behind a.log.now a.used.len a.table.now c.count-n.ensures c.zeros.ensures) w.if-zeros.false)
+    ]

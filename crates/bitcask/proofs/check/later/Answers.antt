@@ -8,8 +8,8 @@ loop-e-init c = looking_start _ _ _ _ c.requires.0
 pub entry_from-requires : goal.entry_from-requires
 entry_from-requires c = let w = c.loop-e.invariant.within in search rules
 
-pub returns-in-None : goal.returns-in-None
-returns-in-None c = looking-over c.loop-e.invariant c.entry_from.ensures c.in-None.is
+pub returns : goal.returns
+returns c = looking-over c.loop-e.invariant c.entry_from.ensures c.in_default.is
 
 pub returns-then-same_key : goal.returns-then-same_key
 returns-then-same_key c = looking-here c.loop-e.invariant c.entry_from.ensures _ c.in-Some.is c.same_key.ensures c.if-same_key.true

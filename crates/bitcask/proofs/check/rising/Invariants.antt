@@ -1,4 +1,4 @@
--- `rising` looks at each slot with the one behind it.
+-- `rising` looks at each slot with the one before it.
 use Prim.Native.Nat.{◌-◌}
 use mathlib.Core.Path.{◌≡◌}
 use lib.ListN.{drop}
@@ -7,7 +7,4 @@ use Rattle.bitcask.specs.check.Told.{risen}
 use Rattle.bitcask.proofs.check.rising.Given as goal
 
 abbrev pub invariant-loop-i : goal.invariant-loop-i
-invariant-loop-i l = risen l.log (slots_of l.count l.table) ≡ risen l.log (drop l.i (slots_of l.count l.table))
-
-abbrev pub decreases-loop-i : goal.decreases-loop-i
-decreases-loop-i l = l.count - l.i
+invariant-loop-i l = risen l.log (slots_of l.count l.table) ≡ risen l.log (drop (l.i - 1) (slots_of l.count l.table))

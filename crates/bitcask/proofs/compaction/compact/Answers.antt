@@ -1,5 +1,9 @@
 -- `compact` tests the sizes, then the room, and then moves the entries.
-use mathlib.Core.Path.{sym, ◌∙◌}
+use mathlib.Core.Path.{◌≡◌, sym, ◌∙◌}
+use native.Mathlib.Omega.{arith}
+use Rattle.std.specs.Prelude.{Some, None}
+use Rattle.keycode.specs.declared.refusal.Refusal.TheVariants.{LogFull}
+use Rattle.std.proofs.lemmas.Result.{err_from_is_err_and}
 use Rattle.bitcask.proofs.keydir.CountLaws.{count-within}
 use Rattle.bitcask.proofs.compaction.CompactLaws.{compact_unfit, compact_large, compact_full, compact_room, compact_done}
 use Rattle.bitcask.proofs.compaction.compact.Goals as goal
@@ -13,11 +17,26 @@ returns-then-room-gt-MAX_LOG c = let a = c.args in compact_large a.log.now a.use
 pub live_upto-requires : goal.live_upto-requires
 live_upto-requires c = rw c.count-n.ensures (count-within c.args.table.now)
 
+pub returns-in_err-ok_or : goal.returns-in_err-ok_or
+returns-in_err-ok_or c =
+    let a = c.args in
+    let e : c.live_upto.result ≡ None = grind arith in
+    let q : c.in_err-ok_or.field-0.0 ≡ LogFull = grind arith in
+    let p = err_from_is_err_and c.from_residual.result c.from_residual.ensures.1 in
+    rw (p.1, p.2, q) (compact_full a.log.now a.used.len a.table.now a.target.now (sym c.fits.ensures ∙ c.if-not-fits.false) c.if-room-gt-MAX_LOG.false c.count-n.ensures c.live_upto.ensures e)
+
 pub move_all-len-requires : goal.move_all-len-requires
-move_all-len-requires c = let a = c.args in (rw c.count-n.ensures (count-within a.table.now), compact_room a.log.now a.used.len a.table.now a.target.now (sym c.fits.ensures ∙ c.if-not-fits.false) c.if-room-gt-MAX_LOG.false c.count-n.ensures c.live_upto.ensures _ c.in-Some.is, c.if-room-gt-MAX_LOG.false)
+move_all-len-requires c =
+    let a = c.args in
+    let e : c.live_upto.result ≡ Some c.in_ok-ok_or.field-0 = grind arith in (
+      rw c.count-n.ensures (count-within a.table.now),
+      compact_room a.log.now a.used.len a.table.now a.target.now (sym c.fits.ensures ∙ c.if-not-fits.false) c.if-room-gt-MAX_LOG.false c.count-n.ensures c.live_upto.ensures _ e,
+      c.if-room-gt-MAX_LOG.false,
+    )
 
-pub returns-in-None : goal.returns-in-None
-returns-in-None c = let a = c.args in compact_full a.log.now a.used.len a.table.now a.target.now (sym c.fits.ensures ∙ c.if-not-fits.false) c.if-room-gt-MAX_LOG.false c.count-n.ensures c.live_upto.ensures c.in-None.is
-
-pub returns-in-Some : goal.returns-in-Some
-returns-in-Some c = let a = c.args in compact_done a.log.now a.used.len a.table.now a.target.now (sym c.fits.ensures ∙ c.if-not-fits.false) c.if-room-gt-MAX_LOG.false c.count-n.ensures c.live_upto.ensures _ c.in-Some.is (rw c.count-n.ensures (count-within a.table.now)) c.move_all-len.ensures
+pub returns : goal.returns
+returns c =
+    let a = c.args in
+    let e : c.live_upto.result ≡ Some c.in_ok-ok_or.field-0 = grind arith in
+    compact_done a.log.now a.used.len a.table.now a.target.now (sym c.fits.ensures ∙ c.if-not-fits.false) c.if-room-gt-MAX_LOG.false c.count-n.ensures c.live_upto.ensures _ e
+    (rw c.count-n.ensures (count-within a.table.now)) c.move_all-len.ensures

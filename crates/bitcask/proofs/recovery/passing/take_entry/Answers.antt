@@ -7,8 +7,8 @@ use native.Mathlib.Omega.{arith}
 use Rattle.bitcask.proofs.recovery.TakeLaws.{set-inside, del-inside, not_gone, is_marked, entry-del}
 use Rattle.bitcask.proofs.recovery.passing.take_entry.Goals as goal
 
-pub slot_for-s-requires : goal.slot_for-s-requires
-slot_for-s-requires c =
+pub of_entry-s-requires : goal.of_entry-s-requires
+of_entry-s-requires c =
     let a = c.args in
     omega (
       arith,
@@ -25,7 +25,7 @@ take_set-requires c =
       c.requires.2,
       c.requires.3,
       not_gone c.in-Some-Set.vlen (a.at + 1) c.in-Some-Set.klen (omega
-          (arith, c.requires.1)) c.slot_for-s.ensures,
+          (arith, c.requires.1)) c.of_entry-s.ensures,
     )
 
 pub gone_for-s-requires : goal.gone_for-s-requires
