@@ -27,11 +27,9 @@ pub fn scan_step(
     ensures { Scans log.now used.len table.now handle lower low.now upper high.now given last.now result }
 {
     let mark = admit(log, used, table, handle)?;
-    if keys_fit(lower, low, upper, high, given, last) {
-        step_between(
-            log, table, mark, handle, lower, low, upper, high, given, last,
-        )
-    } else {
-        Err(Refusal::KeyTooLong)
+    let past = given.then_some(last);
+    if !keys_fit(lower, low, upper, high, past) {
+        return Err(Refusal::KeyTooLong);
     }
+    step_between(log, table, mark, handle, lower, low, upper, high, past)
 }

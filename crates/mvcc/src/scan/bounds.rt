@@ -1,14 +1,11 @@
 // Bounds of user keys as bounds of Version keys, and a scan's step between them.
-ghost use Rattle.std.specs.Prelude.{◌≡◌, true};
-ghost use Rattle.keycode.specs.Order.{compare_bytes};
+ghost use Rattle.std.specs.Prelude.{◌≡◌, true, is_some};
 ghost use Rattle.keycode.specs.code.Codes.{Codes};
-ghost use Rattle.bitcask.specs.declared.answers.Bound.TheVariants.{Excluded};
-ghost use Rattle.bitcask.specs.read.Ranks.{admits_low};
 ghost use Rattle.bitcask.specs.engine.Marks.{Held};
 ghost use Rattle.bitcask.specs.engine.Rows.{rows};
 ghost use Rattle.bitcask.specs.engine.Spots.{rank};
 ghost use Rattle.mvcc.specs.walk.Walks.{step_rows};
-ghost use Rattle.mvcc.specs.scan.Bounds.{key_fits, last_fits, keys_fit, low_kind, low_bytes, high_kind, high_bytes, start_rank, past_rows, scan_rows};
+ghost use Rattle.mvcc.specs.scan.Bounds.{key_fits, last_fits, last_in, keys_fit, low_kind, low_bytes, high_kind, high_bytes, start_rank, past_rows, scan_rows};
 
 use crate::handle::{Handle, LAST_VERSION};
 use crate::walk::step_from;
@@ -18,15 +15,13 @@ use bitcask::{Bound, KeyValue};
 use keycode::code::{Code, version_code};
 use keycode::limits::KEY_BYTES;
 use keycode::{Refusal, compare};
-use std::cmp::Ordering;
 
 fn low_kind(lower: Bound) -> Bound
     ensures { result ≡ low_kind lower }
 {
     match lower {
-        Bound::Included => Bound::Included,
-        Bound::Excluded => Bound::Excluded,
         Bound::Unbounded => Bound::Included,
+        kind => kind,
     }
 }
 
@@ -34,9 +29,8 @@ fn high_kind(upper: Bound) -> Bound
     ensures { result ≡ high_kind upper }
 {
     match upper {
-        Bound::Included => Bound::Included,
-        Bound::Excluded => Bound::Excluded,
         Bound::Unbounded => Bound::Excluded,
+        kind => kind,
     }
 }
 
@@ -65,17 +59,6 @@ fn high_code(upper: Bound, high: &[u8]) -> Code
     }
 }
 
-// Whether a key comes behind another.
-fn follows(key: &[u8], other: &[u8]) -> bool
-    ensures { result ≡ admits_low Excluded (compare_bytes key.now other.now) }
-{
-    match compare(key, other) {
-        Ordering::Less => false,
-        Ordering::Equal => false,
-        Ordering::Greater => true,
-    }
-}
-
 // Where a step starts: at the first row that the lower bound admits or, where that comes later, past the versions of the last given key.
 // Which comes later the two keys tell, so that one search will do.
 fn start(
@@ -84,19 +67,18 @@ fn start(
     mark: Mark,
     lower: Bound,
     low: &[u8],
-    given: bool,
-    last: &[u8],
+    past: Option<&[u8]>,
 ) -> Spot
-    requires { (Held log.now table.now mark) × (last_fits given last.now ≡ true) }
-    ensures { rank result (rows log.now table.now mark) ≡ start_rank lower low.now given last.now (rows log.now table.now mark) }
+    requires { (Held log.now table.now mark) × (last_fits (is_some past) (last_in past) ≡ true) }
+    ensures { rank result (rows log.now table.now mark) ≡ start_rank lower low.now (is_some past.entry) (last_in past.entry) (rows log.now table.now mark) }
 {
-    if !given {
+    let Some(last) = past else {
         return first(log, table, mark, lower, low);
-    }
+    };
     let code = low_code(Bound::Excluded, last);
     let bytes = code.bytes;
     let n = code.len;
-    if follows(low, &bytes[..n]) {
+    if compare(low, &bytes[..n]).is_gt() {
         return first(log, table, mark, lower, low);
     }
     first(log, table, mark, Bound::Excluded, &bytes[..n])
@@ -112,14 +94,13 @@ pub(crate) fn step_past(
     low: &[u8],
     upper: Bound,
     high: &[u8],
-    given: bool,
-    last: &[u8],
+    past: Option<&[u8]>,
 ) -> Result<KeyValue, Refusal>
-    requires { (Held log.now table.now mark) × (last_fits given last.now ≡ true) }
+    requires { (Held log.now table.now mark) × (last_fits (is_some past) (last_in past) ≡ true) }
     ensures { result
-        ≡ step_rows handle log.now (past_rows lower low.now upper high.now given last.now (rows log.now table.now mark)) }
+        ≡ step_rows handle log.now (past_rows lower low.now upper high.now (is_some past.entry) (last_in past.entry) (rows log.now table.now mark)) }
 {
-    let from = start(log, table, mark, lower, low, given, last);
+    let from = start(log, table, mark, lower, low, past);
     step_from(log, table, mark, from, upper, high, handle)
 }
 
@@ -133,12 +114,11 @@ pub(crate) fn step_between(
     low: &[u8],
     upper: Bound,
     high: &[u8],
-    given: bool,
-    last: &[u8],
+    past: Option<&[u8]>,
 ) -> Result<KeyValue, Refusal>
-    requires { (Held log.now table.now mark) × (keys_fit lower low.now upper high.now given last.now ≡ true) }
+    requires { (Held log.now table.now mark) × (keys_fit lower low.now upper high.now (is_some past) (last_in past) ≡ true) }
     ensures { result
-        ≡ step_rows handle log.now (scan_rows lower low.now upper high.now given last.now (rows log.now table.now mark)) }
+        ≡ step_rows handle log.now (scan_rows lower low.now upper high.now (is_some past.entry) (last_in past.entry) (rows log.now table.now mark)) }
 {
     let a = low_code(lower, low);
     let from = a.bytes;
@@ -155,7 +135,6 @@ pub(crate) fn step_between(
         &from[..n],
         high_kind(upper),
         &to[..k],
-        given,
-        last,
+        past,
     )
 }

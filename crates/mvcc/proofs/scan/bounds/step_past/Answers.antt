@@ -1,5 +1,7 @@
 -- `step_past`: the walk from where the step starts.
+use Rattle.std.specs.Prelude.{is_some}
 use Rattle.bitcask.specs.engine.Rows.{rows}
+use Rattle.mvcc.specs.scan.Bounds.{last_in}
 use Rattle.mvcc.proofs.scan.BoundLaws.{past_by}
 use Rattle.mvcc.proofs.scan.bounds.step_past.Goals as goal
 
@@ -10,4 +12,4 @@ pub step_from-requires : goal.step_from-requires
 step_from-requires c = c.requires.0
 
 pub returns : goal.returns
-returns c = let a = c.args in past_by a.handle a.log.now (rows a.log.now a.table.now a.mark) a.given a.last.now a.lower a.low.now a.upper a.high.now c.start-from.ensures c.step_from.ensures
+returns c = let a = c.args in past_by a.handle a.log.now (rows a.log.now a.table.now a.mark) (is_some a.past) (last_in a.past) a.lower a.low.now a.upper a.high.now c.start-from.ensures c.step_from.ensures
