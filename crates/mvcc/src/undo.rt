@@ -44,17 +44,14 @@ fn all_writes(log: &[u8], table: &[u32], mark: Mark, span: Span) -> bool
     requires { (Held log.now table.now mark) × (rank span.to (rows log.now table.now mark) ≤ length (rows log.now table.now mark)) }
     ensures { result ≡ all_users (pairs (between span.from span.to (rows log.now table.now mark))) }
 {
-    let to = span.to;
     let mut at = span.from;
-    loop {
-        if meet(log, table, mark, at, to) {
-            return true;
-        }
+    while !meet(log, table, mark, at, span.to) {
         if !is_write(key_at(log, table, mark, at)) {
             return false;
         }
         at = next(log, table, mark, at);
     }
+    true
 }
 
 // The Version key that a TxnWrite key names: the user key stands in both, escaped and ended.

@@ -2,7 +2,8 @@
 // decodable or not.
 ghost use Rattle.mvcc.specs.end.Promises.{Commits};
 
-use crate::end::{Way, finish};
+use crate::end::clear::clear;
+use crate::end::to_close;
 use crate::handle::Handle;
 use bitcask::Used;
 use keycode::Refusal;
@@ -15,5 +16,11 @@ pub fn commit(
 ) -> Result<Used, Refusal>
     ensures { Commits log.old used.len table.old handle result log.new table.new }
 {
-    finish(log, used, table, handle, Way::Commit)
+    let Some(closing) = to_close(log, used, table, handle)? else {
+        return Ok(used);
+    };
+    let code = closing.code;
+    let bytes = code.bytes;
+    let n = code.len;
+    clear(log, table, closing.mark, closing.span, &bytes[..n])
 }

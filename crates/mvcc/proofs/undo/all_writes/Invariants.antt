@@ -6,7 +6,7 @@ use Rattle.mvcc.proofs.undo.UndoStepLaws.{Testing}
 use Rattle.mvcc.proofs.undo.all_writes.Given as goal
 
 abbrev pub invariant-loop-mark : goal.invariant-loop-mark
-invariant-loop-mark l = Testing (rows l.log l.table l.mark) l.initial.at l.to l.at
+invariant-loop-mark l = Testing (rows l.log l.table l.mark) l.initial.at l.span.to l.at
 
 abbrev pub decreases-loop-mark : goal.decreases-loop-mark
-decreases-loop-mark l = rank l.to (rows l.log l.table l.mark) - rank l.at (rows l.log l.table l.mark)
+decreases-loop-mark l = rank l.span.to (rows l.log l.table l.mark) - rank l.at (rows l.log l.table l.mark)
