@@ -50,17 +50,6 @@ module _ {b : Bound} (k : List ℕ) where
   pub high_by : {j : Bound} {r : Code} → b ≡ j → Codes r (high_bytes j k) → Codes r (high_bytes b k)
   high_by e w = rw e w
 
--- one that is none admits what another one would
-pub low_kept : (b : Bound) → (b ≡ Unbounded → ⊥) → b ≡ low_kind b
-low_kept Included n = refl
-low_kept Excluded n = refl
-low_kept Unbounded n = absurd (n refl)
-
-pub high_kept : (b : Bound) → (b ≡ Unbounded → ⊥) → b ≡ high_kind b
-high_kept Included n = refl
-high_kept Excluded n = refl
-high_kept Unbounded n = absurd (n refl)
-
 greater_told : (o : Ordering) → is_gt o ≡ admits_low Excluded o
 greater_told Less = refl
 greater_told Equal = refl

@@ -41,39 +41,6 @@ pub same_by : (log : List ℕ) (a b : Part) {x y : List ℕ} {o : Ordering} → 
 unfolding same_string
 same_by log a b {o = o} ex ey eo = equal_told o ∙ ap is_equal eo ∙ rw (ex, ey)
 
-pub later_decided : (key k : Part) (old new : Seen) → (new ≡ Hidden → ⊥) → in_group k new ≡ later_by key old k new
-later_decided key k old Hidden n = absurd (n refl)
-later_decided key k old Gone n = refl
-later_decided key k old Bad n = refl
-later_decided key k old (Value v) n = refl
-
-pub spoilt_none : (key : Part) (x : Seen) → ((v : Part) → x ≡ Value v → ⊥) → Over (Err BadStore) ≡ spoilt_by key x
-spoilt_none key Hidden n = refl
-spoilt_none key Gone n = refl
-spoilt_none key Bad n = refl
-spoilt_none key (Value v) n = absurd (n v refl)
-
-pub over_not : (w : Walk) → ((a : Result KeyValue Refusal) → w ≡ Over a → ⊥) → false ≡ is_over w
-over_not Start n = refl
-over_not (Within g) n = refl
-over_not (Broken k v) n = refl
-over_not (Over a) n = absurd (n a refl)
-
-module _ (log : List ℕ) (key : Part) {x : Option Record} (n : Record) (e : x ≡ Some n) {b : Bool} (eb : b ≡ same_string log key n.key) where
-  module _ (seen : Seen) where
-    pub within_same : b ≡ true → {w : Walk} → w ≡ later_by key seen n.key n.seen → w ≡ within_by log key seen x
-    within_same t ew = rw (e, ← eb, t) ew
-
-    pub within-other : b ≡ false → {w : Walk} → w ≡ closed_by key n.key n.seen seen → w ≡ within_by log key seen x
-    within-other t ew = rw (e, ← eb, t) ew
-
-  module _ (value : Part) where
-    pub broken_same : b ≡ true → Over (Err BadStore) ≡ broken_by log key value x
-    broken_same t = rw (e, ← eb, t)
-
-    pub broken_other : b ≡ false → Over (Ok (record { key = key; value = value })) ≡ broken_by log key value x
-    broken_other t = rw (e, ← eb, t)
-
 -- ---- the walk up
 
 -- the rows from number n on are still to be looked at

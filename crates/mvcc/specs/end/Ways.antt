@@ -1,5 +1,5 @@
 -- What the two ways share in which a transaction ends: the checks, a read-only handle that ends at once, and tombstones that are judged
--- and appended, all or none. Document 01, 'Transactions'. Assumes nothing.
+-- and appended, all or none. Assumes nothing.
 use Rattle.bitcask.specs.declared.request.Used.{Used}
 use Rattle.keycode.specs.declared.refusal.Refusal.{Refusal}
 use Rattle.std.specs.Prelude.{ℕ, ◌+◌, ◌≡◌, true, false, List, [], ◌∷◌, ◌++◌, leb, length, Result, Ok, Err, Option, None, Some}

@@ -1,4 +1,4 @@
--- Bounds of user keys as bounds of Version keys, and the rows that a scan's step reads. Document 01, 'Transactions'. Assumes nothing.
+-- Bounds of user keys as bounds of Version keys, and the rows that a scan's step reads. Assumes nothing.
 use Rattle.std.specs.Prelude.{ℕ, ◌-◌, ◌^◌, ◌≡◌, Bool, true, false, List, [], ◌∷◌, leb, length, Option, None, Some}
 use Rattle.std.specs.Borrow.{Bor}
 use Rattle.keycode.specs.Tests.{pick}

@@ -1,5 +1,5 @@
 -- A scan's step over rows in the order of their keys. It reads to the last Version record of the key that it gives: a key before that
--- which does not decode is 12, one behind it is not read. Where it gives none it reads all. Document 01, 'Transactions'. Assumes nothing.
+-- which does not decode is 12, one behind it is not read. Where it gives none it reads all. Assumes nothing.
 use Rattle.bitcask.specs.declared.answers.KeyValue.{KeyValue}
 use Rattle.keycode.specs.declared.refusal.Refusal.{Refusal}
 use Rattle.std.specs.declared.cmp.Ordering.{Ordering}

@@ -8,6 +8,7 @@ ghost use Rattle.bitcask.specs.engine.Prefixes.{Prefixes};
 ghost use Rattle.mvcc.specs.request.Ranges.{write_prefix};
 ghost use Rattle.mvcc.specs.end.Ways.{store_of, del_where, Clears};
 
+use crate::payload::VERSION_BYTES;
 use bitcask::Used;
 use bitcask::append::room_after;
 use bitcask::engine::change::append_del;
@@ -17,13 +18,16 @@ use bitcask::engine::{Mark, Span};
 use keycode::Refusal;
 use keycode::number::put_number;
 
+// The first byte of a TxnWrite key.
+const WRITE_TAG: u8 = 3;
+
 // The rows of the records of a version's writes.
 pub(crate) fn write_span(log: &[u8], table: &[u32], mark: Mark, version: u64) -> Span
     requires { Held log.now table.now mark }
     ensures { Prefixes (rows log.now table.now mark) (write_prefix version) result }
 {
-    let mut bytes = [3u8; 9];
-    put_number(version, 8, &mut bytes, 1);
+    let mut bytes = [WRITE_TAG; 1 + VERSION_BYTES];
+    put_number(version, VERSION_BYTES, &mut bytes, 1);
     prefix_span(log, table, mark, &bytes)
 }
 
@@ -33,10 +37,7 @@ pub(crate) fn del_key(log: &mut [u8], table: &mut [u32], mark: Mark, key: &[u8])
     ensures { store_of log.new table.new result ≡ del_where (store_of log.old table.old mark) key.now }
 {
     let room = log.len() - mark.used.len;
-    if room < 8 {
-        return mark;
-    }
-    if room - 8 < key.len() {
+    if room < 8 || room - 8 < key.len() {
         return mark;
     }
     append_del(log, table, mark, key)
