@@ -52,7 +52,7 @@ unfolding walk_rows
 over-stays h log w [] e = refl
 over-stays h log Start (r ∷ rs) e = nope (cc)
 over-stays h log (Within g) (r ∷ rs) e = nope (cc)
-over-stays h log (Broken k x) (r ∷ rs) e = nope (cc)
+over-stays h log (Broken p) (r ∷ rs) e = nope (cc)
 over-stays h log (Over a) (r ∷ rs) e = over-stays h log (Over a) rs refl
 
 module _ {h : Handle} {log : List ℕ} {upper : Bound} {high : List ℕ} {rs : List Row} {from : ℕ} {w : Walk} {n : ℕ} (g : Walking h log upper high rs from w n) {r : Option Spot}
