@@ -8,9 +8,9 @@ use native.Mathlib.Decide.{dec_le}
 use native.Mathlib.Omega.{arith}
 use native.Mathlib.Numerals.{add-one}
 use lib.Dec.{eqb, leb, ltb}
-use lib.ListN.{length, take, drop, get_or, set, replicate, drop_of_length-le, length-append, length-drop}
-use lib.Seq.{drop-cons, take_all, take_at, set-append_seam}
-use borrow.Author.Tests.{eq-eqb, ne_eqb, lt-ltb, le-ltb, le-leb, lt-leb}
+use lib.ListN.{length, take, get_or, set, replicate, length-append}
+use lib.Seq.{take_all, take_at, set-append_seam}
+use borrow.Author.Tests.{lt-ltb, le-ltb, le-leb, lt-leb}
 use Rattle.std.specs.List.{list_any, IsAllAdjacentAnswer}
 use Rattle.keycode.specs.Tests.{pick}
 use Rattle.keycode.specs.Limits.{max_open}

@@ -1,18 +1,17 @@
 -- Laws of the first edition's payloads: what is written is read back, and what each reader and writer answers. Assumes nothing.
-use Prim.Native.Nat.{ℕ, zero, suc, ◌+◌, ◌-◌, ◌*◌, ◌/◌, ◌%◌, ◌<◌, ◌≤◌, min}
+use Prim.Native.Nat.{ℕ, zero, suc, ◌+◌, ◌*◌, ◌/◌, ◌%◌, ◌<◌, ◌≤◌}
 use mathlib.Core.Path.{◌≡◌, refl, sym, ap, ◌∙◌}
 use mathlib.Core.Bool.{Bool, true, false}
 use mathlib.Core.List.{List, [], ◌∷◌, ◌++◌}
 use native.Mathlib.Omega.{arith}
 use native.Mathlib.Numerals.{add-one}
 use lib.ListN.{length, take, drop, get_or, length-append, length-take, drop_of_length-le}
-use lib.Seq.{take_at, drop_at, drop-cons, drop-drop}
+use lib.Seq.{take_at, drop_at, drop-cons}
 use borrow.Author.Tests.{ne_eqb, le-leb, lt-leb}
 use Rattle.std.specs.Prelude.{Some, None, Ok, Err}
 use Rattle.keycode.specs.Limits.{max_open}
 use Rattle.keycode.specs.Number.{be, num}
 use Rattle.keycode.specs.Buffer.{put}
-use Rattle.keycode.specs.declared.refusal.Refusal.{Refusal}
 use Rattle.keycode.specs.declared.refusal.Refusal.TheVariants.{TooManyOpen, BadStore}
 use Rattle.keycode.proofs.Basics.{nope}
 use Rattle.keycode.proofs.NumberLaws.{num-be, length-be}
@@ -21,7 +20,7 @@ use Rattle.mvcc.specs.declared.handle.Handle.{Handle}
 use Rattle.mvcc.specs.declared.payload.Stored.TheVariants.{Value, Gone}
 use Rattle.mvcc.specs.handle.Handles.{rising, set_of, sound_handle, handle_of, with_version, with_all}
 use Rattle.mvcc.specs.payload.Payloads.{value_at, ReadsBack, Versions, version_in, set_bytes, versions_of, set_in, value_bytes, value_in, first, set_for}
-use Rattle.mvcc.proofs.handle.HandleLaws.{set_part, made_all, made_sound}
+use Rattle.mvcc.proofs.handle.HandleLaws.{made_all, made_sound}
 
 -- ---- read after write
 

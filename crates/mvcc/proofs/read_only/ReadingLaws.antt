@@ -21,7 +21,6 @@ use Rattle.bitcask.specs.declared.engine.mark.Mark.{Mark}
 use Rattle.bitcask.specs.engine.Rows.{rows}
 use Rattle.bitcask.specs.engine.Marks.{entered_by}
 use Rattle.bitcask.proofs.engine.SpotLaws.{in_fits, in_agreeing, refused_fits}
-use Rattle.mvcc.specs.declared.handle.Handle.{Handle}
 use Rattle.mvcc.specs.handle.Handles.{handle_of, blank_handle}
 use Rattle.mvcc.proofs.handle.HandleLaws.{made_all}
 use Rattle.mvcc.specs.declared.snapshot.Seen.{Seen}

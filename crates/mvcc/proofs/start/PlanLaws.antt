@@ -5,7 +5,7 @@ use mathlib.Core.List.{List, [], ◌∷◌, ◌++◌, append-nil}
 use native.Mathlib.Omega.{arith}
 use lib.ListN.{length, take, drop, drop_of_length-le}
 use lib.Seq.{take_at}
-use Rattle.std.specs.Prelude.{Result, Ok, Err}
+use Rattle.std.specs.Prelude.{Result}
 use Rattle.std.specs.declared.cmp.Ordering.TheVariants.{Less}
 use Rattle.keycode.specs.Buffer.{put}
 use Rattle.keycode.specs.Order.{compare_nat, compare_bytes}
@@ -19,9 +19,6 @@ use Rattle.bitcask.specs.declared.engine.mark.Mark.{Mark}
 use Rattle.mvcc.specs.declared.handle.Handle.{Handle}
 use Rattle.mvcc.specs.handle.Handles.{set_of}
 use Rattle.mvcc.specs.payload.Payloads.{version_bytes, set_bytes}
-use Rattle.mvcc.specs.declared.begun.Begun.{Begun}
-use Rattle.mvcc.specs.request.Given.{refused_by, begun_with}
-use Rattle.mvcc.specs.start.Begins.{begun_by}
 use Rattle.mvcc.specs.append.Appends.{Appends}
 use Rattle.mvcc.proofs.append.PairLaws.{pair_of}
 use Rattle.mvcc.proofs.append.ThreeLaws.{three_of}

@@ -5,7 +5,7 @@ use mathlib.Core.Bool.{Bool, true, false}
 use mathlib.Core.List.{List, [], ◌∷◌, ◌++◌}
 use native.Mathlib.Omega.{arith}
 use lib.ListN.{length, take}
-use Rattle.std.specs.Prelude.{Result, Ok, Err, Option, ℕ, Some, None}
+use Rattle.std.specs.Prelude.{Result, Ok, Option, ℕ, Some, None}
 use Rattle.keycode.specs.Limits.{max_key}
 use Rattle.keycode.specs.declared.parts.Part.{Part}
 use Rattle.keycode.specs.declared.refusal.Refusal.{Refusal}
@@ -31,7 +31,6 @@ use Rattle.bitcask.specs.engine.Walks.{near_rank, before_in, down_from}
 use Rattle.bitcask.proofs.engine.WalkLaws.{walk_over, walk_on}
 use Rattle.bitcask.proofs.engine.RangeLaws.{down_agrees}
 use Rattle.mvcc.specs.declared.version.Label.{Label}
-use Rattle.mvcc.specs.declared.version.Record.{Record}
 use Rattle.mvcc.specs.declared.version.Seen.{Seen}
 use Rattle.mvcc.specs.declared.version.Seen.TheVariants.{Hidden, Gone, Bad, Value}
 use Rattle.mvcc.specs.version.Seen.{label_key, label_by, version_in, version_of, behind_part, string_part, says_by, row_says, seen_as, seen_by, seen_row, record_by, record_row}

@@ -1,11 +1,11 @@
 -- The walk over rows, by what the code has learnt of each. Assumes nothing.
 use Prim.Native.Nat.{ℕ, suc, ◌+◌, ◌-◌, ◌<◌}
 use mathlib.Core.Path.{◌≡◌, refl, sym, ap, ◌∙◌}
-use mathlib.Core.Bool.{Bool, true, false}
+use mathlib.Core.Bool.{Bool, true}
 use mathlib.Core.List.{List, [], ◌∷◌}
 use native.Mathlib.Omega.{arith}
 use lib.ListN.{length}
-use Rattle.std.specs.Prelude.{Result, Ok, Err, Option, Some, None}
+use Rattle.std.specs.Prelude.{Result, Option, Some, None}
 use Rattle.bitcask.specs.declared.answers.KeyValue.{KeyValue}
 use Rattle.keycode.specs.declared.refusal.Refusal.{Refusal}
 use Rattle.std.specs.declared.cmp.Ordering.{Ordering}
@@ -13,7 +13,6 @@ use Rattle.std.specs.declared.cmp.Ordering.TheVariants.{Less, Equal, Greater}
 use Rattle.std.specs.Ordering.{is_eq}
 use Rattle.keycode.specs.Order.{compare_bytes}
 use Rattle.keycode.specs.declared.parts.Part.{Part}
-use Rattle.keycode.specs.declared.refusal.Refusal.TheVariants.{BadStore}
 use Rattle.keycode.proofs.Basics.{nope}
 use Rattle.bitcask.specs.declared.answers.Bound.{Bound}
 use Rattle.bitcask.specs.declared.engine.spot.Spot.{Spot}
@@ -21,13 +20,11 @@ use Rattle.bitcask.specs.engine.Rows.{Row}
 use Rattle.bitcask.specs.engine.Spots.{rank, row_at}
 use Rattle.bitcask.specs.engine.Walks.{near_rank, from_in}
 use Rattle.mvcc.specs.declared.handle.Handle.{Handle}
-use Rattle.mvcc.specs.declared.version.Seen.{Seen}
-use Rattle.mvcc.specs.declared.version.Seen.TheVariants.{Hidden, Gone, Bad, Value}
 use Rattle.mvcc.specs.declared.version.Record.{Record}
 use Rattle.mvcc.specs.version.Seen.{record_row}
 use Rattle.mvcc.specs.declared.walk.Walk.{Walk}
 use Rattle.mvcc.specs.declared.walk.Walk.TheVariants.{Start, Within, Broken, Over}
-use Rattle.mvcc.specs.walk.Walks.{is_equal, part_of, same_string, in_group, later_by, closed_by, spoilt_by, within_by, broken_by, next_walk, ended_by, is_over, up_from, walk_rows, step_rows}
+use Rattle.mvcc.specs.walk.Walks.{is_equal, part_of, same_string, next_walk, ended_by, is_over, up_from, walk_rows, step_rows}
 use Rattle.mvcc.proofs.walk.UpLaws.{up_over, up_on}
 
 -- ---- one record more

@@ -1,5 +1,5 @@
 -- `resumed`: the checks, and the handle as it came.
-use mathlib.Core.Path.{◌≡◌, refl}
+use mathlib.Core.Path.{◌≡◌}
 use borrow.Author.Rules.{rules}
 use Rattle.std.specs.Prelude.{Err}
 use Rattle.mvcc.proofs.read.ResumeLaws.{resume_refused, resume_done}
