@@ -1,49 +1,46 @@
-// How transactions end. Part of toydb's storage/mvcc.rs. Document 01, 'Transactions'.
+// How transactions end. Part of toydb's storage/mvcc.rs.
 pub(crate) mod clear;
 pub mod commit;
 pub mod rollback;
 
-ghost use Rattle.mvcc.specs.end.Ways.{Ends};
+ghost use Rattle.mvcc.specs.end.Ways.{Closes_from};
 
 use crate::admission::admit;
-use crate::end::clear::{clear, write_span};
+use crate::end::clear::write_span;
 use crate::handle::Handle;
-use crate::undo::undo;
 use bitcask::Used;
-use bitcask::engine::Store;
+use bitcask::engine::{Mark, Span};
 use keycode::Refusal;
-use keycode::code::active_code;
+use keycode::code::{Code, active_code};
 
-// Whether the versions that were written stay.
+// What the end of a read-write transaction starts from: the mark, the rows of the records of its version's writes, and the code of its
+// TxnActive.
 #[derive(Clone, Copy)]
-pub enum Way {
-    Commit,
-    Rollback,
+pub struct Closing {
+    pub mark: Mark,
+    pub span: Span,
+    pub code: Code,
 }
 
-// 13 and 3, and then what the way does with the records of the version's writes and its TxnActive. A read-only handle has none of them,
-// so that it ends at once.
-pub(crate) fn finish(
-    log: &mut [u8],
+// 13, then 3. None of a read-only handle, which has no records, so that its transaction ends at once.
+pub(crate) fn to_close(
+    log: &[u8],
     used: Used,
-    table: &mut [u32],
+    table: &[u32],
     handle: Handle,
-    way: Way,
-) -> Result<Used, Refusal>
-    ensures { Ends way log.old used.len table.old handle result log.new table.new }
+) -> Result<Option<Closing>, Refusal>
+    ensures { Closes_from log.now used table.now handle result }
 {
     let view = admit(log, used, table, handle)?;
     if handle.read_only {
-        return Ok(used);
+        return Ok(None);
     }
     let version = handle.version;
     let span = write_span(&view, version);
     let code = active_code(version);
-    let bytes = code.bytes;
-    let n = code.len;
-    let mark = view.mark;
-    match way {
-        Way::Commit => clear(&mut Store { log, table, mark }, span, &bytes[..n]),
-        Way::Rollback => undo(log, table, mark, span, version, &bytes[..n]),
-    }
+    Ok(Some(Closing {
+        mark: view.mark,
+        span,
+        code,
+    }))
 }

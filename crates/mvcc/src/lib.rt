@@ -1,5 +1,4 @@
-// The transactions: every public call of toydb's storage/mvcc.rs, with the types that they take and answer. Document 01,
-// 'Transactions'.
+// The transactions: every public call of toydb's storage/mvcc.rs, with the types that they take and answer.
 #![tactic(auto)]
 
 mod admission;

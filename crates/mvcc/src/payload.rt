@@ -51,20 +51,13 @@ pub(crate) fn read_value(bytes: &[u8]) -> Option<Stored>
     }
 }
 
-// The version whose bytes start at index at.
-fn version_at(bytes: &[u8], at: usize) -> u64
-    ensures { result ≡ num (take 8 (drop at bytes.now)) }
-{
-    get_number(clip(bytes, at, VERSION_BYTES))
-}
-
 // A handle with the versions of a payload, as many as it has room for.
 fn gathered(bytes: &[u8], version: u64, read_only: bool) -> Handle
     ensures { result ≡ with_all (handle_of version read_only []) (versions_of (length bytes.now / 8) bytes.now) }
 {
     let mut handle = Handle::fresh(version, read_only);
-    for i in 0..bytes.len() / VERSION_BYTES {
-        handle = handle.with(version_at(bytes, i * VERSION_BYTES));
+    for version in bytes.chunks_exact(VERSION_BYTES) {
+        handle = handle.with(get_number(version));
     }
     handle
 }

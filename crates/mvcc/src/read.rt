@@ -1,3 +1,3 @@
-// The calls of a transaction that append nothing: get and resume. Part of toydb's storage/mvcc.rs. Document 01, 'Transactions'.
+// The calls of a transaction that append nothing: get and resume. Part of toydb's storage/mvcc.rs.
 pub(crate) mod get;
 pub(crate) mod resume;

@@ -7,7 +7,7 @@ use bitcask::engine::enter;
 use keycode::Refusal;
 
 // NextVersion less 1, and the live keys that begin with the tag of TxnActive.
-#[derive(Clone, Copy)]
+#[derive(Clone, Copy, Debug, PartialEq, Eq)]
 pub struct Versions {
     pub last: u64,
     pub open: usize,

@@ -27,9 +27,9 @@ pub fn scan_step(
     ensures { Scans log.now used.len table.now handle lower low.now upper high.now given last.now result }
 {
     let view = admit(log, used, table, handle)?;
-    if keys_fit(lower, low, upper, high, given, last) {
-        step_between(&view, handle, lower, low, upper, high, given, last)
-    } else {
-        Err(Refusal::KeyTooLong)
+    let past = given.then_some(last);
+    if !keys_fit(lower, low, upper, high, past) {
+        return Err(Refusal::KeyTooLong);
     }
+    step_between(&view, handle, lower, low, upper, high, past)
 }

@@ -41,17 +41,14 @@ fn all_writes(view: &View, span: Span) -> bool
     requires { rank span.to (shown view.now) ≤ length (shown view.now) }
     ensures { result ≡ all_users (pairs (between span.from span.to (shown view.now))) }
 {
-    let to = span.to;
     let mut at = span.from;
-    loop {
-        if view.meet(at, to) {
-            return true;
-        }
+    while !view.meet(at, span.to) {
         if !is_write(view.key_at(at)) {
             return false;
         }
         at = view.next(at);
     }
+    true
 }
 
 // The Version key that a TxnWrite key names: the user key stands in both, escaped and ended.

@@ -1,3 +1,3 @@
-// Get and set of keys that have no versions and need no transaction. Part of toydb's storage/mvcc.rs. Document 01, 'Transactions'.
+// Get and set of keys that have no versions and need no transaction. Part of toydb's storage/mvcc.rs.
 pub(crate) mod get;
 pub(crate) mod set;

@@ -11,13 +11,13 @@ use bitcask::engine::{Spot, View};
 use bitcask::{Bound, KeyValue, part};
 use keycode::{Part, Refusal, compare};
 
-// Before the first group; within one, with what it says so far and the place of the key that said it; the same with a value and, behind
-// it, a key that does not decode; and past the end of the step.
+// Before the first group; within one, with what it says so far and the place of the key that said it; a pair and, behind it, a key
+// that does not decode; and past the end of the step.
 #[derive(Clone, Copy)]
 pub enum Walk {
     Start,
     Within(Record),
-    Broken(Part, Part),
+    Broken(KeyValue),
     Over(Result<KeyValue, Refusal>),
 }
 
@@ -70,7 +70,10 @@ fn spoilt(group: Record) -> Walk
     ensures { result ≡ spoilt_by group.key group.seen }
 {
     match group.seen {
-        Seen::Value(value) => Walk::Broken(group.key, value),
+        Seen::Value(value) => Walk::Broken(KeyValue {
+            key: group.key,
+            value,
+        }),
         _ => Walk::Over(Err(Refusal::BadStore)),
     }
 }
@@ -97,16 +100,16 @@ fn within(log: &[u8], group: Record, row: Option<Record>) -> Walk
     }
 }
 
-fn broken(log: &[u8], key: Part, value: Part, row: Option<Record>) -> Walk
-    ensures { result ≡ broken_by log.now key value row }
+fn broken(log: &[u8], pair: KeyValue, row: Option<Record>) -> Walk
+    ensures { result ≡ broken_by log.now pair.key pair.value row }
 {
     let Some(new) = row else {
-        return Walk::Broken(key, value);
+        return Walk::Broken(pair);
     };
-    if same_string(log, key, new.key) {
+    if same_string(log, pair.key, new.key) {
         Walk::Over(Err(Refusal::BadStore))
     } else {
-        Walk::Over(Ok(KeyValue { key, value }))
+        Walk::Over(Ok(pair))
     }
 }
 
@@ -118,7 +121,7 @@ impl Walk {
         match self {
             Walk::Start => opened(row),
             Walk::Within(group) => within(log, group, row),
-            Walk::Broken(key, value) => broken(log, key, value, row),
+            Walk::Broken(pair) => broken(log, pair, row),
             Walk::Over(_) => self,
         }
     }
@@ -130,7 +133,7 @@ impl Walk {
         match self {
             Walk::Start => Err(Refusal::Absent),
             Walk::Within(group) => group_answer(group),
-            Walk::Broken(key, value) => Ok(KeyValue { key, value }),
+            Walk::Broken(pair) => Ok(pair),
             Walk::Over(answer) => answer,
         }
     }

@@ -101,8 +101,7 @@ pub fn set(
     ensures { Writes log.old used.len table.old handle key.now (value_bytes (Some value.now)) (length value.now)
         result log.new table.new }
 {
-    let tag = [VALUE_TAG; 1];
-    write(log, used, table, handle, key, &tag[..1], value)
+    write(log, used, table, handle, key, &[VALUE_TAG], value)
 }
 
 // A tombstone's payload has no bytes of the user's, and so is never refused with 5.
@@ -115,6 +114,5 @@ pub fn delete(
 ) -> Result<Used, Refusal>
     ensures { Writes log.old used.len table.old handle key.now (value_bytes None) 0 result log.new table.new }
 {
-    let tag = [GONE_TAG; 1];
-    write(log, used, table, handle, key, &tag[..1], &key[..0])
+    write(log, used, table, handle, key, &[GONE_TAG], &key[..0])
 }

@@ -40,21 +40,19 @@ use Rattle.mvcc.specs.undo.Plans.{undos_of, all_users}
 use Rattle.mvcc.specs.undo.Undo.{undoing, Undoes}
 use Rattle.mvcc.specs.admission.Admits.{check_of, Admits}
 use Rattle.mvcc.proofs.admission.AdmitLaws.{fine_held, fine_agreeing}
-use Rattle.mvcc.specs.declared.end.Way.{Way}
-use Rattle.mvcc.specs.declared.end.Way.TheVariants.{Commit, Rollback}
 use Rattle.mvcc.specs.end.Plans.{writes_of, commit_plan, rollback_plan}
 use Rattle.mvcc.specs.end.Promises.{among, Leaves, Commits, commit_answer, RollsBack, undo_answer, rollback_answer}
-use Rattle.mvcc.specs.end.Ways.{plan_of, numbers_of, judged_of, Ends, Closes, clearing, Clears}
+use Rattle.mvcc.specs.end.Ways.{Way, by_commit, by_rollback, plan_of, numbers_of, judged_of, Ends, Closes, clearing, Clears}
 use Rattle.mvcc.proofs.end.EndLaws.{leaves_refused, leaves_none, leaves-plan, none_done}
 use Rattle.mvcc.proofs.end.EarlyLaws.{among-all, admitted, admit_map, admit_numbers, early_refused, early-reads, early-writes}
 
 -- ---- the public promises
 
-pub commits-so : {log : List ℕ} {used : ℕ} {t : List ℕ} {h : Handle} {r : Result Used Refusal} {log' t' : List ℕ} → Ends Commit log used t h r log' t' → Commits log used t h r log' t'
+pub commits-so : {log : List ℕ} {used : ℕ} {t : List ℕ} {h : Handle} {r : Result Used Refusal} {log' t' : List ℕ} → Ends by_commit log used t h r log' t' → Commits log used t h r log' t'
 unfolding commit_answer
 commits-so w = record { leaves = w.leaves; early = w.early; numbers = w.numbers; answer = w.answer }
 
-pub rolls_so : {log : List ℕ} {used : ℕ} {t : List ℕ} {h : Handle} {r : Result Used Refusal} {log' t' : List ℕ} → Ends Rollback log used t h r log' t' → RollsBack log used t h r log' t'
+pub rolls_so : {log : List ℕ} {used : ℕ} {t : List ℕ} {h : Handle} {r : Result Used Refusal} {log' t' : List ℕ} → Ends by_rollback log used t h r log' t' → RollsBack log used t h r log' t'
 unfolding rollback_answer
 rolls_so w = record { leaves = w.leaves; early = w.early; numbers = w.numbers; answer = w.answer }
 
@@ -62,41 +60,41 @@ rolls_so w = record { leaves = w.leaves; early = w.early; numbers = w.numbers; a
 
 way_three : (way : Way) → among 3 (numbers_of way) ≡ true
 unfolding among
-way_three Commit = refl
-way_three Rollback = refl
+way_three by_commit = refl
+way_three by_rollback = refl
 
 way_thirteen : (way : Way) → among 13 (numbers_of way) ≡ true
 unfolding among
-way_thirteen Commit = refl
-way_thirteen Rollback = refl
+way_thirteen by_commit = refl
+way_thirteen by_rollback = refl
 
 way_done : (way : Way) → among 0 (numbers_of way) ≡ true
 unfolding among
-way_done Commit = refl
-way_done Rollback = refl
+way_done by_commit = refl
+way_done by_rollback = refl
 
 -- a read-only handle appends nothing
 reads-plan : (way : Way) (h : Handle) (m : List Pair) → h.read_only ≡ true → plan_of way h m ≡ []
 unfolding commit_plan rollback_plan
-reads-plan Commit h m p = rw p
-reads-plan Rollback h m p = rw p
+reads-plan by_commit h m p = rw p
+reads-plan by_rollback h m p = rw p
 
 reads-judged : (way : Way) (log : List ℕ) (used : ℕ) (t : List ℕ) (h : Handle) → h.read_only ≡ true → Agrees log used t → judged_of way log used (length t) h ≡ Ok (record { len = used })
 unfolding undo_answer
-reads-judged Commit log used t h p g = ap (append_answer log used (length t)) (reads-plan Commit h (map_of log used) p) ∙ none_done log used t g
-reads-judged Rollback log used t h p g =
+reads-judged by_commit log used t h p g = ap (append_answer log used (length t)) (reads-plan by_commit h (map_of log used) p) ∙ none_done log used t g
+reads-judged by_rollback log used t h p g =
     ap (λ (b : Bool). pick (pick b true (all_users (writes_of h.version (map_of log used)))) (append_answer log used (length t) (rollback_plan h (map_of log used))) (Err BadStore)) p
-    ∙ ap (append_answer log used (length t)) (reads-plan Rollback h (map_of log used) p) ∙ none_done log used t g
+    ∙ ap (append_answer log used (length t)) (reads-plan by_rollback h (map_of log used) p) ∙ none_done log used t g
 
 -- a number of what is done behind the checks: one of the way's, and not 13
 abbrev Late : Way → ℕ → Type 0
 Late way n = (among n (numbers_of way) ≡ true) × (eqb n 13 ≡ false)
 
-late_clear : All (Late Commit) (0 ∷ 7 ∷ [])
+late_clear : All (Late by_commit) (0 ∷ 7 ∷ [])
 unfolding among
 late_clear = all_more (refl, refl) (all_more (refl, refl) all_none)
 
-late_undo : All (Late Rollback) (0 ∷ 7 ∷ 12 ∷ [])
+late_undo : All (Late by_rollback) (0 ∷ 7 ∷ 12 ∷ [])
 unfolding among
 late_undo = all_more (refl, refl) (all_more (refl, refl) (all_more (refl, refl) all_none))
 
@@ -206,12 +204,8 @@ module _ (log : List ℕ) (used : Used) (t : List ℕ) (h : Handle) {x : Result 
             ∙ ap (λ (ps : List Pair). pick (all_users ps) (append_answer log used.len (length t) (rollback_plan h map)) (Err BadStore)) (sym (writes_are g))
             ∙ ap (λ (c : Result Used Refusal). pick (all_users (pairs rs)) c (Err BadStore)) (ap (append_answer log used.len (length t)) (undo_plan g) ∙ judged-at (undoing h.version rs key))
 
-        at_way : {way to : Way} {r : Result Used Refusal} {log' t' : List ℕ} → way ≡ to → Ends to log used.len t h r log' t' → Ends way log used.len t h r log' t'
-        at_way q v = rw q v
+        pub finish_clears : {r : Result Used Refusal} {log' t' : List ℕ} → Clears log t m rs key r log' t' → Ends by_commit log used.len t h r log' t'
+        finish_clears c = finish_closed by_commit late_clear clear_plan (λ g. ap (append_answer log used.len (length t)) (clear_plan g) ∙ judged-at (clearing rs key)) c
 
-        pub finish_clears : (way : Way) → way ≡ Commit → (r : Result Used Refusal) (log' t' : List ℕ) → Clears log t m rs key r log' t' → Ends way log used.len t h r log' t'
-        finish_clears way q r log' t' c =
-            at_way q (finish_closed Commit late_clear clear_plan (λ g. ap (append_answer log used.len (length t)) (clear_plan g) ∙ judged-at (clearing rs key)) c)
-
-        pub finish_undoes : (way : Way) → way ≡ Rollback → (r : Result Used Refusal) (log' t' : List ℕ) → Undoes log t m rs h.version key r log' t' → Ends way log used.len t h r log' t'
-        finish_undoes way q r log' t' c = at_way q (finish_closed Rollback late_undo undo_plan undo_judged c)
+        pub finish_undoes : {r : Result Used Refusal} {log' t' : List ℕ} → Undoes log t m rs h.version key r log' t' → Ends by_rollback log used.len t h r log' t'
+        finish_undoes c = finish_closed by_rollback late_undo undo_plan undo_judged c

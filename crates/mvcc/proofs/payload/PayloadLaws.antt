@@ -1,12 +1,12 @@
 -- Laws of the first edition's payloads: what is written is read back, and what each reader and writer answers. Assumes nothing.
-use Prim.Native.Nat.{ℕ, zero, suc, ◌+◌, ◌-◌, ◌*◌, ◌/◌, ◌%◌, ◌<◌, ◌≤◌}
+use Prim.Native.Nat.{ℕ, zero, suc, ◌+◌, ◌*◌, ◌/◌, ◌%◌, ◌<◌, ◌≤◌}
 use mathlib.Core.Path.{◌≡◌, refl, sym, ap, ◌∙◌}
 use mathlib.Core.Bool.{Bool, true, false}
 use mathlib.Core.List.{List, [], ◌∷◌, ◌++◌}
 use native.Mathlib.Omega.{arith}
 use native.Mathlib.Numerals.{add-one}
 use lib.ListN.{length, take, drop, get_or, length-append, length-take, drop_of_length-le}
-use lib.Seq.{take_at, drop_at, drop-cons, drop-drop}
+use lib.Seq.{take_at, drop_at, drop-cons}
 use borrow.Author.Tests.{ne_eqb, le-leb, lt-leb}
 use Rattle.std.specs.Prelude.{Some, None, Ok, Err}
 use Rattle.keycode.specs.Limits.{max_open}
@@ -107,22 +107,19 @@ module _ (b : List ℕ) (at : ℕ) {s : List ℕ} (part : s ≡ take 8 (drop at 
   pub part_short : length s ≤ 8
   part_short = rw part (simp length-take (omega arith))
 
-  pub part_version : (v : ℕ) → v ≡ num s → v ≡ num (take 8 (drop at b))
-  part_version v e = e ∙ ap num part
+pub gather_start : {s b : List ℕ} {g h : Handle} → s ≡ b → g ≡ h → with_all g (versions_of (length s / 8) s) ≡ with_all h (versions_of (length b / 8) b)
+gather_start e f = rw (e, f)
 
-pub gather_start : (b : List ℕ) {g h : Handle} → g ≡ h → with_all g (versions_of (length b / 8) (drop 0 b)) ≡ with_all h (versions_of (length b / 8) b)
-gather_start b e = rw e
-
-pub gather_turn : (b : List ℕ) (at left : ℕ) (h g whole : Handle) (v : ℕ) → 0 < left → v ≡ num (take 8 (drop at b)) → g ≡ with_version h v
-    → with_all h (versions_of left (drop at b)) ≡ whole → with_all g (versions_of (left - 1) (drop (at + 8) b)) ≡ whole
+pub gather_turn : (x t : List ℕ) (h : Handle) {s : List ℕ} {g whole : Handle} {v : ℕ} → s ≡ x ++ t → length x ≡ 8 → v ≡ num x → g ≡ with_version h v
+    → with_all h (versions_of (length s / 8) s) ≡ whole → with_all g (versions_of (length t / 8) t) ≡ whole
 unfolding with_all versions_of
-gather_turn b at zero h g whole v k e f w = absurd (omega arith)
-gather_turn b at (suc n) h g whole v k e f w = let p : suc n - 1 ≡ n = omega arith in rw (p, f, e, ← drop-drop 8 at b) w
+gather_turn x t h e l ev eg w =
+    let z : length (x ++ t) / 8 ≡ suc (length t / 8) = omega (arith, length-append x t) in
+    rw (eg, ev) (rw (e, z, take_at x t 8 l, drop_at x t 8 l) at w)
 
-pub gather_end : (b : List ℕ) (at left : ℕ) (h whole : Handle) → left ≤ 0 → with_all h (versions_of left (drop at b)) ≡ whole → h ≡ whole
+pub gather_end : (s : List ℕ) (h : Handle) {whole : Handle} → length s < 8 → with_all h (versions_of (length s / 8) s) ≡ whole → h ≡ whole
 unfolding with_all versions_of
-gather_end b at zero h whole k w = w
-gather_end b at (suc n) h whole k w = absurd (omega arith)
+gather_end s h k w = let z : length s / 8 ≡ 0 = omega arith in rw z at w
 
 versions-long : (n : ℕ) (b : List ℕ) → length (versions_of n b) ≡ n
 unfolding versions_of

@@ -1,13 +1,18 @@
 -- The codes of bounds, and the rows between them, by what the code has learnt. Assumes nothing.
 use Prim.Native.Nat.{ℕ, ◌+◌, ◌≤◌}
 use mathlib.Core.Path.{◌≡◌, refl, sym, ap, ◌∙◌}
-use mathlib.Core.Bool.{Bool, true, false, not}
+use mathlib.Core.Bool.{Bool, true, false}
 use mathlib.Core.List.{List, [], ◌∷◌, ◌++◌}
 use native.Mathlib.Omega.{arith}
 use lib.Dec.{leb}
 use lib.ListN.{length, take, set, replicate, length-take, length-set}
-use borrow.Author.Tests.{leb-true, not-true, not-false}
-use Rattle.std.specs.Prelude.{Result, Some, None, Option}
+use borrow.Author.Tests.{leb-true}
+use Rattle.std.specs.Prelude.{Result, Option, None, Some, is_some}
+use Rattle.std.specs.Bool.{then_some}
+use Rattle.std.specs.Borrow.{Bor}
+use Rattle.std.specs.Ordering.{is_gt}
+use Rattle.std.specs.declared.cmp.Ordering.{Ordering}
+use Rattle.std.specs.declared.cmp.Ordering.TheVariants.{Less, Equal, Greater}
 use Rattle.bitcask.specs.declared.answers.KeyValue.{KeyValue}
 use Rattle.keycode.specs.declared.refusal.Refusal.{Refusal}
 use Rattle.keycode.specs.Tests.{pick}
@@ -27,7 +32,7 @@ use Rattle.bitcask.specs.engine.Prefixes.{end_bound, end_bytes}
 use Rattle.mvcc.specs.declared.handle.Handle.{Handle}
 use Rattle.mvcc.specs.declared.scan.prefix.Upper.{Upper}
 use Rattle.mvcc.specs.walk.Walks.{up_from, step_rows}
-use Rattle.mvcc.specs.scan.Bounds.{key_fits, last_fits, keys_fit, prefix_fits, low_kind, low_bytes, high_kind, high_bytes, start_rank, past_rows, scan_rows, prefix_rows, Uppers}
+use Rattle.mvcc.specs.scan.Bounds.{key_fits, last_fits, last_in, keys_fit, prefix_fits, low_kind, low_bytes, high_kind, high_bytes, start_rank, past_rows, scan_rows, prefix_rows, Uppers}
 
 -- ---- one bound
 
@@ -44,6 +49,11 @@ module _ {b : Bound} (k : List ℕ) where
   pub high_by : {j : Bound} {r : Code} → b ≡ j → Codes r (high_bytes j k) → Codes r (high_bytes b k)
   high_by e w = rw e w
 
+greater_told : (o : Ordering) → is_gt o ≡ admits_low Excluded o
+greater_told Less = refl
+greater_told Equal = refl
+greater_told Greater = refl
+
 -- the end of the Version keys
 pub five_code : Codes (record { len = 1; bytes = replicate {A = ℕ} key_bytes 5 }) (5 ∷ [])
 five_code = record { whole = refl; within = omega arith; says = refl }
@@ -53,24 +63,50 @@ code-short {c} w = omega (arith, w.within, length-take c.len c.bytes)
 
 -- ---- where a step starts
 
-pub last_fits_lem : (b : Bool) (k : List ℕ) → not b ≡ false → last_fits b k ≡ true → key_fits Excluded k ≡ true
-last_fits_lem b k t f = ap (λ (x : Bool). last_fits x k) (sym (not-false b t)) ∙ f
+module _ {past : Option (Bor (List ℕ))} where
+  pub last_fits_lem : (k : Bor (List ℕ)) → past ≡ Some k → last_fits (is_some past) (last_in past) ≡ true → key_fits Excluded k.now ≡ true
+  last_fits_lem k q f = ap (λ (x : Option (Bor (List ℕ))). last_fits (is_some x) (last_in x)) (sym q) ∙ f
 
-module _ (lower : Bound) (low : List ℕ) (given : Bool) (last : List ℕ) (rs : List Row) where
-  pub start_low : not given ≡ true → {n : ℕ} → n ≡ from_rank lower low rs → n ≡ start_rank lower low given last rs
-  start_low t e = e ∙ ap (λ (g : Bool). start_rank lower low g last rs) (sym (not-true given t))
+  module _ (lower : Bound) (low : List ℕ) (rs : List Row) where
+    pub start_low : past ≡ None → {n : ℕ} → n ≡ from_rank lower low rs → n ≡ start_rank lower low (is_some past) (last_in past) rs
+    start_low q e = e ∙ ap (λ (x : Option (Bor (List ℕ))). start_rank lower low (is_some x) (last_in x) rs) (sym q)
 
-  module _ (t : not given ≡ false) {code : Code} (w : Codes code (low_bytes Excluded last)) {b : Bool} (eb : b ≡ admits_low Excluded (compare_bytes low (take code.len code.bytes))) where
-    start_by : (v : Bool) → b ≡ v → start_rank lower low given last rs ≡ pick v (from_rank lower low rs) (from_rank Excluded (low_bytes Excluded last) rs)
-    start_by v q =
-        ap (λ (g : Bool). start_rank lower low g last rs) (not-false given t)
-        ∙ ap (λ (x : Bool). pick x (from_rank lower low rs) (from_rank Excluded (low_bytes Excluded last) rs)) (ap (λ (x : List ℕ). admits_low Excluded (compare_bytes low x)) (sym w.says) ∙ sym eb ∙ q)
+    module _ (k : Bor (List ℕ)) (q : past ≡ Some k) {code : Code} (w : Codes code (low_bytes Excluded k.now)) {o : Ordering} (eo : o ≡ compare_bytes low (take code.len code.bytes))
+        {b : Bool} (eb : b ≡ is_gt o) where
+      start_by : (v : Bool) → b ≡ v → start_rank lower low (is_some past) (last_in past) rs ≡ pick v (from_rank lower low rs) (from_rank Excluded (low_bytes Excluded k.now) rs)
+      start_by v z =
+          ap (λ (x : Option (Bor (List ℕ))). start_rank lower low (is_some x) (last_in x) rs) q
+          ∙ ap (λ (x : Bool). pick x (from_rank lower low rs) (from_rank Excluded (low_bytes Excluded k.now) rs))
+          (ap (λ (x : List ℕ). admits_low Excluded (compare_bytes low x)) (sym w.says) ∙ ap (admits_low Excluded) (sym eo) ∙ sym (greater_told o) ∙ sym eb ∙ z)
 
-    pub start_later : b ≡ true → {n : ℕ} → n ≡ from_rank lower low rs → n ≡ start_rank lower low given last rs
-    start_later q e = e ∙ sym (start_by true q)
+      pub start_later : b ≡ true → {n : ℕ} → n ≡ from_rank lower low rs → n ≡ start_rank lower low (is_some past) (last_in past) rs
+      start_later z e = e ∙ sym (start_by true z)
 
-    pub start_past : b ≡ false → {n : ℕ} → n ≡ from_rank Excluded (take code.len code.bytes) rs → n ≡ start_rank lower low given last rs
-    start_past q e = e ∙ ap (λ (x : List ℕ). from_rank Excluded x rs) w.says ∙ sym (start_by false q)
+      pub start_past : b ≡ false → {n : ℕ} → n ≡ from_rank Excluded (take code.len code.bytes) rs → n ≡ start_rank lower low (is_some past) (last_in past) rs
+      start_past z e = e ∙ ap (λ (x : List ℕ). from_rank Excluded x rs) w.says ∙ sym (start_by false z)
+
+-- a last key by a flag beside it, as the calls are handed it
+module _ (given : Bool) (k : Bor (List ℕ)) {past : Option (Bor (List ℕ))} (e : past ≡ then_some given k) where
+  flag-fits : last_fits (is_some past) (last_in past) ≡ last_fits given k.now
+  flag-fits = rw e (go given)
+    where
+      go : (b : Bool) → last_fits (is_some (then_some b k)) (last_in (then_some b k)) ≡ last_fits b k.now
+      go true = refl
+      go false = refl
+
+  pub flag_keys : (lower : Bound) (low : List ℕ) (upper : Bound) (high : List ℕ) → keys_fit lower low upper high (is_some past) (last_in past) ≡ keys_fit lower low upper high given k.now
+  flag_keys lower low upper high = ap (λ (b : Bool). pick (key_fits lower low) (pick (key_fits upper high) b false) false) flag-fits
+
+  pub flag_prefix : (p : List ℕ) → prefix_fits p (is_some past) (last_in past) ≡ prefix_fits p given k.now
+  flag_prefix p = ap (λ (b : Bool). pick (leb (length p) max_key) b false) flag-fits
+
+  pub flag_rows : (lower : Bound) (low : List ℕ) (upper : Bound) (high : List ℕ) (rs : List Row) → past_rows lower low upper high (is_some past) (last_in past) rs ≡ past_rows lower low upper high given k.now rs
+  unfolding past_rows
+  flag_rows lower low upper high rs = rw e (go given)
+    where
+      go : (b : Bool) → up_from upper high rs (start_rank lower low (is_some (then_some b k)) (last_in (then_some b k)) rs) ≡ up_from upper high rs (start_rank lower low b k.now rs)
+      go true = refl
+      go false = refl
 
 -- ---- all of them
 

@@ -63,8 +63,8 @@ next_quiet log Start (Some n) q = group_quiet n.key n.seen
 next_quiet log (Within g) None q = spoilt_quiet g.key g.seen
 next_quiet log (Within g) (Some n) q =
     pick_quiet (same_string log g.key n.key) (later_by g.key g.seen n.key n.seen) (closed_by g.key n.key n.seen g.seen) (later_quiet g.key g.seen n.key n.seen) (closed_quiet g.key n.key n.seen g.seen)
-next_quiet log (Broken key v) None q = gives key v
-next_quiet log (Broken key v) (Some n) q = pick_quiet (same_string log key n.key) (Over (Err BadStore)) (Over (Ok (record { key = key; value = v }))) breaks (gives key v)
+next_quiet log (Broken p) None q = gives p.key p.value
+next_quiet log (Broken p) (Some n) q = pick_quiet (same_string log p.key n.key) (Over (Err BadStore)) (Over (Ok p)) breaks (gives p.key p.value)
 next_quiet log (Over a) x q = q
 
 module _ (h : Handle) (log : List ℕ) where

@@ -136,7 +136,7 @@ module _ (h : Handle) (log : List ℕ) where
 
   -- behind a key that is no Version key
   broken_shown : (rs : List Row) (s : Stamp) → Rest log s rs → (key v : Part) → part_of log key ≡ escape_body s.user
-      → from (Broken key v) rs ≡ pick (any_of s.user (pairs rs)) None (shown_step log (Ok (record { key = key; value = v })))
+      → from (Broken (record { key = key; value = v })) rs ≡ pick (any_of s.user (pairs rs)) None (shown_step log (Ok (record { key = key; value = v })))
   unfolding walk_rows any_of pairs
   broken_shown [] s w key v e = refl
   broken_shown (r ∷ rs) s w key v e = go (told h log r (stands_here w.stand)) (broken_shown rs s (rest_more w) key v e)
@@ -152,7 +152,7 @@ module _ (h : Handle) (log : List ℕ) where
       by z true d f = over-stays (Err BadStore) rs
       by z false d f = over-stays (Ok (record { key = key; value = v })) rs ∙ ap (λ (b : Bool). pick b None a) (sym (f d))
 
-      go : Told h log r (record_row h r) (stamp_of r.key) → from (Broken key v) rs ≡ pick (any_of u (pairs rs)) None a
+      go : Told h log r (record_row h r) (stamp_of r.key) → from (Broken (record { key = key; value = v })) rs ≡ pick (any_of u (pairs rs)) None a
           → from (broken_by log key v (record_row h r)) rs ≡ pick (pick (is_of u (stamp_of r.key)) true (any_of u (pairs rs))) None a
       go (junk p q) ih =
           ap (λ (x : Option Record). from (broken_by log key v x) rs) p ∙ ih

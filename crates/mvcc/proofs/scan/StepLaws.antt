@@ -28,9 +28,6 @@ use Rattle.mvcc.specs.walk.Walks.{step_rows}
 use Rattle.mvcc.specs.scan.Promises.{checked_step, keys_by, scan_answer, Scanning}
 use Rattle.mvcc.proofs.scan.QuietLaws.{step-answers, answers_quiet}
 
-pub both_by : {x y a b r : Bool} → x ≡ a → y ≡ b → r ≡ pick x y false → r ≡ pick a b false
-both_by ex ey er = er ∙ rw (ex, ey)
-
 -- ---- the numbers
 
 -- that of what follows the checks of every call

@@ -1,5 +1,5 @@
 -- What the code reads at a begin, for any table: NextVersion, the version of a key, and the walk over the open versions. Assumes nothing.
-use Prim.Native.Nat.{ℕ, suc, ◌+◌, ◌-◌, ◌≤◌, ◌<◌}
+use Prim.Native.Nat.{ℕ, suc, ◌+◌, ◌≤◌, ◌<◌}
 use mathlib.Core.Path.{◌≡◌, refl, sym, ap, ◌∙◌}
 use mathlib.Core.Bool.{Bool, true, false, not}
 use mathlib.Core.List.{List, [], ◌∷◌}
@@ -146,10 +146,6 @@ module _ {rs : List Row} {from to : Spot} {start handle : Handle} {n : ℕ} {at 
         near = omega (arith, w.near);
         so = rw f (sym (seen_more n handle v (versions_in (keys_in (between next to rs)))) ∙ rw e at (gather_on next en));
       }
-
-    -- the walk ends
-    pub gather_less : (next : Spot) → rank next rs ≡ rank at rs + 1 → rank to rs - rank next rs < rank to rs - rank at rs
-    gather_less next en = omega (arith, before)
 
 -- the count of a walk over a store's rows fits
 pub gather_fits : (log t : List ℕ) (m : Mark) → Held log t m → (n : ℕ) (at : Spot) → n ≤ rank at (rows log t m) → rank at (rows log t m) < length (rows log t m) → n + 1 ≤ length t

@@ -1,11 +1,11 @@
 -- The walk over rows, by what the code has learnt of each. Assumes nothing.
 use Prim.Native.Nat.{ℕ, suc, ◌+◌, ◌-◌, ◌<◌}
 use mathlib.Core.Path.{◌≡◌, refl, sym, ap, ◌∙◌}
-use mathlib.Core.Bool.{Bool, true, false}
+use mathlib.Core.Bool.{Bool, true}
 use mathlib.Core.List.{List, [], ◌∷◌}
 use native.Mathlib.Omega.{arith}
 use lib.ListN.{length}
-use Rattle.std.specs.Prelude.{Result, Ok, Err, Option, Some, None}
+use Rattle.std.specs.Prelude.{Result, Option, Some, None}
 use Rattle.bitcask.specs.declared.answers.KeyValue.{KeyValue}
 use Rattle.keycode.specs.declared.refusal.Refusal.{Refusal}
 use Rattle.std.specs.declared.cmp.Ordering.{Ordering}
@@ -13,7 +13,6 @@ use Rattle.std.specs.declared.cmp.Ordering.TheVariants.{Less, Equal, Greater}
 use Rattle.std.specs.Ordering.{is_eq}
 use Rattle.keycode.specs.Order.{compare_bytes}
 use Rattle.keycode.specs.declared.parts.Part.{Part}
-use Rattle.keycode.specs.declared.refusal.Refusal.TheVariants.{BadStore}
 use Rattle.keycode.proofs.Basics.{nope}
 use Rattle.bitcask.specs.declared.answers.Bound.{Bound}
 use Rattle.bitcask.specs.declared.engine.spot.Spot.{Spot}
@@ -21,13 +20,11 @@ use Rattle.bitcask.specs.engine.Rows.{Row}
 use Rattle.bitcask.specs.engine.Spots.{rank, row_at}
 use Rattle.bitcask.specs.engine.Walks.{near_rank, from_in}
 use Rattle.mvcc.specs.declared.handle.Handle.{Handle}
-use Rattle.mvcc.specs.declared.version.Seen.{Seen}
-use Rattle.mvcc.specs.declared.version.Seen.TheVariants.{Hidden, Gone, Bad, Value}
 use Rattle.mvcc.specs.declared.version.Record.{Record}
 use Rattle.mvcc.specs.version.Seen.{record_row}
 use Rattle.mvcc.specs.declared.walk.Walk.{Walk}
 use Rattle.mvcc.specs.declared.walk.Walk.TheVariants.{Start, Within, Broken, Over}
-use Rattle.mvcc.specs.walk.Walks.{is_equal, part_of, same_string, in_group, later_by, closed_by, spoilt_by, within_by, broken_by, next_walk, ended_by, is_over, up_from, walk_rows, step_rows}
+use Rattle.mvcc.specs.walk.Walks.{is_equal, part_of, same_string, next_walk, ended_by, is_over, up_from, walk_rows, step_rows}
 use Rattle.mvcc.proofs.walk.UpLaws.{up_over, up_on}
 
 -- ---- one record more
@@ -41,39 +38,6 @@ pub same_by : (log : List ℕ) (a b : Part) {x y : List ℕ} {o : Ordering} → 
 unfolding same_string
 same_by log a b {o = o} ex ey eo = equal_told o ∙ ap is_equal eo ∙ rw (ex, ey)
 
-pub later_decided : (key k : Part) (old new : Seen) → (new ≡ Hidden → ⊥) → in_group k new ≡ later_by key old k new
-later_decided key k old Hidden n = absurd (n refl)
-later_decided key k old Gone n = refl
-later_decided key k old Bad n = refl
-later_decided key k old (Value v) n = refl
-
-pub spoilt_none : (key : Part) (x : Seen) → ((v : Part) → x ≡ Value v → ⊥) → Over (Err BadStore) ≡ spoilt_by key x
-spoilt_none key Hidden n = refl
-spoilt_none key Gone n = refl
-spoilt_none key Bad n = refl
-spoilt_none key (Value v) n = absurd (n v refl)
-
-pub over_not : (w : Walk) → ((a : Result KeyValue Refusal) → w ≡ Over a → ⊥) → false ≡ is_over w
-over_not Start n = refl
-over_not (Within g) n = refl
-over_not (Broken k v) n = refl
-over_not (Over a) n = absurd (n a refl)
-
-module _ (log : List ℕ) (key : Part) {x : Option Record} (n : Record) (e : x ≡ Some n) {b : Bool} (eb : b ≡ same_string log key n.key) where
-  module _ (seen : Seen) where
-    pub within_same : b ≡ true → {w : Walk} → w ≡ later_by key seen n.key n.seen → w ≡ within_by log key seen x
-    within_same t ew = rw (e, ← eb, t) ew
-
-    pub within-other : b ≡ false → {w : Walk} → w ≡ closed_by key n.key n.seen seen → w ≡ within_by log key seen x
-    within-other t ew = rw (e, ← eb, t) ew
-
-  module _ (value : Part) where
-    pub broken_same : b ≡ true → Over (Err BadStore) ≡ broken_by log key value x
-    broken_same t = rw (e, ← eb, t)
-
-    pub broken_other : b ≡ false → Over (Ok (record { key = key; value = value })) ≡ broken_by log key value x
-    broken_other t = rw (e, ← eb, t)
-
 -- ---- the walk up
 
 -- the rows from number n on are still to be looked at
@@ -85,7 +49,7 @@ unfolding walk_rows
 over-stays h log w [] e = refl
 over-stays h log Start (r ∷ rs) e = nope (cc)
 over-stays h log (Within g) (r ∷ rs) e = nope (cc)
-over-stays h log (Broken k x) (r ∷ rs) e = nope (cc)
+over-stays h log (Broken p) (r ∷ rs) e = nope (cc)
 over-stays h log (Over a) (r ∷ rs) e = over-stays h log (Over a) rs refl
 
 module _ {h : Handle} {log : List ℕ} {upper : Bound} {high : List ℕ} {rs : List Row} {from : ℕ} {w : Walk} {n : ℕ} (g : Walking h log upper high rs from w n) {r : Option Spot}

@@ -1,4 +1,4 @@
--- The checks that come first in every transaction call, of rows. Document 01, 'Numbers returned', rows 3 and 13. Assumes nothing.
+-- The checks that come first in every transaction call, of rows. 13 before 3. Assumes nothing.
 use Rattle.keycode.specs.declared.refusal.Refusal.{Refusal}
 use Rattle.std.specs.Prelude.{ℕ, ◌≡◌, List, leb, length, Result, ⊤, Ok, Err}
 use Rattle.keycode.specs.Limits.{max_key, max_value}

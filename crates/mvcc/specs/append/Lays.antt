@@ -1,5 +1,5 @@
 -- What a transaction's write and the unversioned set share: the lengths that they may have, and what entries leave that are appended all
--- or none. Document 01, 'Numbers returned'. Assumes nothing.
+-- or none. Assumes nothing.
 use Rattle.keycode.specs.declared.refusal.Refusal.{Refusal}
 use Rattle.std.specs.Prelude.{ℕ, ◌+◌, ◌≤◌, ◌≡◌, Bool, List, length, Result, Ok, ⊤, Err}
 use Rattle.keycode.specs.Tests.{pick, if_done}

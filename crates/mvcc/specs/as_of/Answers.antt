@@ -1,4 +1,4 @@
--- What as-of answers, over what it reads, in document 01's order of refusals. Assumes nothing.
+-- What as-of answers, over what it reads, in the order of refusals. Assumes nothing.
 use Rattle.std.specs.Prelude.{ℕ, true, List, [], leb, Some, None, Option, Result, Ok, Err}
 use Rattle.keycode.specs.declared.refusal.Refusal.{Refusal}
 use Rattle.keycode.specs.Tests.{pick}

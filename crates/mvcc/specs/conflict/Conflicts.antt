@@ -1,5 +1,5 @@
--- A write's search for conflicts: the last version of its key, from the lowest that may be unseen on. Document 01, 'Transactions' and rows
--- 6 and 12 of 'Numbers returned'. Assumes nothing.
+-- A write's search for conflicts: the last version of its key, from the lowest that may be unseen on: 12 where
+-- it does not decode, 6 where the handle does not see it. Assumes nothing.
 use Rattle.keycode.specs.declared.refusal.Refusal.{Refusal}
 use Rattle.std.specs.Prelude.{ℕ, ◌-◌, ◌^◌, Bool, List, [], ◌∷◌, Result, ⊤, Ok, Err, Option, Some, None}
 use Rattle.keycode.specs.Tests.{pick}

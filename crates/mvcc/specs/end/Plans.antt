@@ -1,4 +1,4 @@
--- What the end of a transaction appends, in the words of the map. Document 01, 'Transactions'. Assumes nothing.
+-- What the end of a transaction appends, in the words of the map. Assumes nothing.
 use Rattle.std.specs.Prelude.{ℕ, List, [], ◌∷◌, ◌++◌}
 use Rattle.keycode.specs.Tests.{pick}
 use Rattle.bitcask.specs.entry.Entry.{Entry, del}

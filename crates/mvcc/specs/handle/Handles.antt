@@ -1,5 +1,5 @@
--- A transaction's handle: its set, what it sees, where a write's search starts, and whether it is a handle at all. Document 01,
--- 'Transactions', and row 13 of 'Numbers returned'. Every definition holds for any handle that a caller may make up. Assumes nothing.
+-- A transaction's handle: its set, what it sees, where a write's search starts, and whether it is a handle at all: 13
+-- where not. Every definition holds for any handle that a caller may make up. Assumes nothing.
 use Rattle.std.specs.Prelude.{ℕ, ◌+◌, ◌-◌, ◌^◌, min, Bool, true, false, List, [], ◌∷◌, ◌++◌, length, take, set, replicate, eqb, leb, ltb}
 use Rattle.keycode.specs.Tests.{pick}
 use Rattle.keycode.specs.Limits.{max_open}

@@ -1,4 +1,4 @@
--- What the store keeps under its keys: versions, sets of versions, stored values. Document 01, 'Transactions', fixes the first edition;
+-- What the store keeps under its keys: versions, sets of versions, stored values. The first edition is fixed here;
 -- another may read several payloads alike, so that nothing but 'read after write' may be used of an edition. Assumes nothing.
 use Rattle.std.specs.Prelude.{ℕ, zero, suc, ◌/◌, ◌%◌, ◌^◌, ◌<◌, ◌≡◌, Bool, List, [], ◌∷◌, ◌++◌, length, take, drop, get_or, eqb, leb, Some, None, Option, Result, Ok, Err}
 use Rattle.keycode.specs.Tests.{pick}

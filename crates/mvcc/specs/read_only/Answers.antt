@@ -1,4 +1,4 @@
--- What the read-only begin answers, over what it reads, in document 01's order of refusals. Assumes nothing.
+-- What the read-only begin answers, over what it reads, in the order of refusals. Assumes nothing.
 use Rattle.std.specs.Prelude.{ℕ, true, List, leb, length, Some, None, Option}
 use Rattle.keycode.specs.Tests.{pick}
 use Rattle.keycode.specs.Limits.{max_open}

@@ -1,5 +1,5 @@
--- The checks that come first in every transaction call, as combinators: what they ask of the store is handed in. Document 01, 'Numbers
--- returned', rows 3 and 13. Assumes nothing.
+-- The checks that come first in every transaction call, as combinators: what they ask of the store is handed in. 13
+-- comes before 3. Assumes nothing.
 use Rattle.keycode.specs.declared.refusal.Refusal.{Refusal}
 use Rattle.bitcask.specs.declared.request.Used.{Used}
 use Rattle.std.specs.Prelude.{ℕ, ◌-◌, ◌^◌, Bool, true, false, List, eqb, length, Result, ⊤, Ok, Err}

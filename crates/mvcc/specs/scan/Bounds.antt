@@ -1,5 +1,6 @@
--- Bounds of user keys as bounds of Version keys, and the rows that a scan's step reads. Document 01, 'Transactions'. Assumes nothing.
-use Rattle.std.specs.Prelude.{ℕ, ◌-◌, ◌^◌, ◌≡◌, Bool, true, false, List, [], ◌∷◌, leb, length}
+-- Bounds of user keys as bounds of Version keys, and the rows that a scan's step reads. Assumes nothing.
+use Rattle.std.specs.Prelude.{ℕ, ◌-◌, ◌^◌, ◌≡◌, Bool, true, false, List, [], ◌∷◌, leb, length, Option, None, Some}
+use Rattle.std.specs.Borrow.{Bor}
 use Rattle.keycode.specs.Tests.{pick}
 use Rattle.keycode.specs.Limits.{max_key}
 use Rattle.keycode.specs.key.Keys.{encode, version}
@@ -28,6 +29,11 @@ key_fits Unbounded k = true
 abbrev pub last_fits : Bool → List ℕ → Bool
 last_fits true k = leb (length k) max_key
 last_fits false k = true
+
+-- the last given key, where one is
+abbrev pub last_in : Option (Bor (List ℕ)) → List ℕ
+last_in None = []
+last_in (Some k) = k.now
 
 -- every key that the call is handed
 abbrev pub keys_fit : Bound → List ℕ → Bound → List ℕ → Bool → List ℕ → Bool

@@ -1,6 +1,6 @@
--- A scan's step over the pairs of a map, in document 01's words: the first user key whose highest version that the handle sees is a value,
+-- A scan's step over the pairs of a map: the first user key whose highest version that the handle sees is a value,
 -- with that value. 12 for a key on the way that is no Version key, and for a highest version whose payload is none; behind the last version
--- of the key that it gives nothing is read. Document 01, 'Transactions'. Assumes nothing.
+-- of the key that it gives nothing is read. Assumes nothing.
 use Rattle.bitcask.specs.declared.answers.KeyValue.{KeyValue}
 use Rattle.keycode.specs.declared.refusal.Refusal.{Refusal}
 use Rattle.std.specs.Prelude.{ℕ, ◌≡◌, Bool, true, false, not, List, [], ◌∷◌, take, drop, Result, ⊤, Ok, Option, None, Some}

@@ -1,4 +1,4 @@
--- What a begin reads: NextVersion, and the versions open. Document 01, 'Transactions', and row 12 of 'Numbers returned'. Assumes nothing.
+-- What a begin reads: NextVersion, and the versions open. Assumes nothing.
 use Rattle.std.specs.Prelude.{ℕ, ◌+◌, Bool, List, [], ◌∷◌, eqb, length, take, drop, Some, None, Option}
 use Rattle.keycode.specs.Tests.{pick}
 use Rattle.keycode.specs.Number.{num}

@@ -1,4 +1,4 @@
--- What begin answers, over what it reads, in document 01's order of refusals. Assumes nothing.
+-- What begin answers, over what it reads, in the order of refusals. Assumes nothing.
 use Rattle.bitcask.specs.declared.request.Used.{Used}
 use Rattle.keycode.specs.declared.refusal.Refusal.{Refusal}
 use Rattle.std.specs.Prelude.{ℕ, ◌-◌, ◌^◌, false, List, leb, eqb, length, Result, Ok, Err, Some, None, Option}

@@ -1,4 +1,4 @@
--- What a begin appends. Document 01, 'Transactions'. Assumes nothing.
+-- What a begin appends. Assumes nothing.
 use Rattle.std.specs.Prelude.{ℕ, zero, suc, ◌+◌, List, [], ◌∷◌, ◌++◌, length}
 use Rattle.keycode.specs.key.Keys.{encode, next_version, txn_active, txn_active_snapshot}
 use Rattle.bitcask.specs.entry.Entry.{Entry, set}

@@ -1,5 +1,5 @@
 -- What undoing a transaction's writes appends, in the words of the map: for each record of a write a tombstone for the version that it
--- names, there or not, and one for itself. Document 01, 'Transactions'. Assumes nothing.
+-- names, there or not, and one for itself. Assumes nothing.
 use Rattle.keycode.specs.declared.refusal.Refusal.{Refusal}
 use Rattle.std.specs.Prelude.{ℕ, Bool, true, false, List, [], ◌∷◌, ◌++◌, take, drop, Result, Ok, Err, Option, None, Some}
 use Rattle.keycode.specs.Tests.{pick}

@@ -1,5 +1,5 @@
 -- What records say to a handle: of rows by the places of their keys and values, and of the map's pairs by the values themselves.
--- Document 01, 'Transactions'. Assumes nothing.
+-- Assumes nothing.
 use Rattle.keycode.specs.declared.refusal.Refusal.{Refusal}
 use Rattle.std.specs.Prelude.{ℕ, ◌+◌, ◌-◌, Bool, List, [], ◌∷◌, Result, Ok, Err, Some, None, Option}
 use Rattle.keycode.specs.Tests.{pick}

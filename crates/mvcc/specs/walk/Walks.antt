@@ -1,5 +1,5 @@
 -- A scan's step over rows in the order of their keys. It reads to the last Version record of the key that it gives: a key before that
--- which does not decode is 12, one behind it is not read. Where it gives none it reads all. Document 01, 'Transactions'. Assumes nothing.
+-- which does not decode is 12, one behind it is not read. Where it gives none it reads all. Assumes nothing.
 use Rattle.bitcask.specs.declared.answers.KeyValue.{KeyValue}
 use Rattle.keycode.specs.declared.refusal.Refusal.{Refusal}
 use Rattle.std.specs.declared.cmp.Ordering.{Ordering}
@@ -78,7 +78,7 @@ abbrev pub spoilt_by : Part → Seen → Walk
 spoilt_by key Hidden = Over (Err BadStore)
 spoilt_by key Gone = Over (Err BadStore)
 spoilt_by key Bad = Over (Err BadStore)
-spoilt_by key (Value v) = Broken key v
+spoilt_by key (Value v) = Broken (record { key = key; value = v })
 
 abbrev pub opened_by : Option Record → Walk
 opened_by None = Over (Err BadStore)
@@ -90,26 +90,26 @@ within_by log key seen (Some x) = pick (same_string log key x.key) (later_by key
 
 -- a version of the group behind a key that does not decode: the step had to read that key
 abbrev pub broken_by : List ℕ → Part → Part → Option Record → Walk
-broken_by log key value None = Broken key value
+broken_by log key value None = Broken (record { key = key; value = value })
 broken_by log key value (Some x) = pick (same_string log key x.key) (Over (Err BadStore)) (Over (Ok (record { key = key; value = value })))
 
 abbrev pub next_walk : List ℕ → Walk → Option Record → Walk
 next_walk log Start x = opened_by x
 next_walk log (Within g) x = within_by log g.key g.seen x
-next_walk log (Broken key value) x = broken_by log key value x
+next_walk log (Broken p) x = broken_by log p.key p.value x
 next_walk log (Over answer) x = Over answer
 
 abbrev pub ended_by : Walk → Result KeyValue Refusal
 ended_by Start = Err Absent
 ended_by (Within g) = group_answer g.key g.seen
-ended_by (Broken key value) = Ok (record { key = key; value = value })
+ended_by (Broken p) = Ok p
 ended_by (Over answer) = answer
 
 -- the answer is known, and no record behind changes it
 abbrev pub is_over : Walk → Bool
 is_over Start = false
 is_over (Within g) = false
-is_over (Broken key value) = false
+is_over (Broken p) = false
 is_over (Over answer) = true
 
 -- ---- the step

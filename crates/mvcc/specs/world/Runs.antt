@@ -1,4 +1,4 @@
--- Runs: any mix of calls, each on the world that the last one left and with handles that the store gave. Document 01, 'Demands', the third.
+-- Runs: any mix of calls, each on the world that the last one left and with handles that the store gave.
 -- Assumes nothing.
 use Rattle.bitcask.specs.declared.request.Used.{Used}
 use Rattle.keycode.specs.declared.refusal.Refusal.{Refusal}

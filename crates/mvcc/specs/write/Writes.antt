@@ -1,5 +1,4 @@
--- A transaction's write: the tests in document 01's order of refusals, and the entries. Document 01, 'Transactions' and 'Numbers returned'.
--- Assumes nothing.
+-- A transaction's write: the tests in the order of refusals, and the entries. Assumes nothing.
 use Rattle.keycode.specs.declared.refusal.Refusal.{Refusal}
 use Rattle.std.specs.Prelude.{ℕ, Bool, List, [], ◌∷◌, Result, ⊤, Err}
 use Rattle.keycode.specs.Tests.{pick}

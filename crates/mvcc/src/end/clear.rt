@@ -8,18 +8,22 @@ ghost use Rattle.bitcask.specs.engine.Prefixes.{Prefixes};
 ghost use Rattle.mvcc.specs.request.Ranges.{write_prefix};
 ghost use Rattle.mvcc.specs.end.Ways.{del_where, Clears};
 
+use crate::payload::VERSION_BYTES;
 use bitcask::Used;
 use bitcask::append::room_after;
 use bitcask::engine::{Span, Store, View};
 use keycode::Refusal;
 use keycode::number::put_number;
 
+// The first byte of a TxnWrite key.
+const WRITE_TAG: u8 = 3;
+
 // The rows of the records of a version's writes.
 pub(crate) fn write_span(view: &View, version: u64) -> Span
     ensures { Prefixes (shown view.now) (write_prefix version) result }
 {
-    let mut bytes = [3u8; 9];
-    put_number(version, 8, &mut bytes, 1);
+    let mut bytes = [WRITE_TAG; 1 + VERSION_BYTES];
+    put_number(version, VERSION_BYTES, &mut bytes, 1);
     view.prefix_span(&bytes)
 }
 
@@ -29,10 +33,7 @@ pub(crate) fn del_key(store: &mut Store, key: &[u8])
     ensures state { state_of store.new ≡ del_where (state_of store.old) key.now }
 {
     let room = store.log.len() - store.mark.used.len;
-    if room < 8 {
-        return;
-    }
-    if room - 8 < key.len() {
+    if room < 8 || room - 8 < key.len() {
         return;
     }
     store.append_del(key);

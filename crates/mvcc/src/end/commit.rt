@@ -2,9 +2,11 @@
 // decodable or not.
 ghost use Rattle.mvcc.specs.end.Promises.{Commits};
 
-use crate::end::{Way, finish};
+use crate::end::clear::clear;
+use crate::end::to_close;
 use crate::handle::Handle;
 use bitcask::Used;
+use bitcask::engine::Store;
 use keycode::Refusal;
 
 pub fn commit(
@@ -15,5 +17,12 @@ pub fn commit(
 ) -> Result<Used, Refusal>
     ensures { Commits log.old used.len table.old handle result log.new table.new }
 {
-    finish(log, used, table, handle, Way::Commit)
+    let Some(closing) = to_close(log, used, table, handle)? else {
+        return Ok(used);
+    };
+    let code = closing.code;
+    let bytes = code.bytes;
+    let n = code.len;
+    let mark = closing.mark;
+    clear(&mut Store { log, table, mark }, closing.span, &bytes[..n])
 }

@@ -2,8 +2,9 @@
 // last one for TxnActive.
 ghost use Rattle.mvcc.specs.end.Promises.{RollsBack};
 
-use crate::end::{Way, finish};
+use crate::end::to_close;
 use crate::handle::Handle;
+use crate::undo::undo;
 use bitcask::Used;
 use keycode::Refusal;
 
@@ -15,5 +16,18 @@ pub fn rollback(
 ) -> Result<Used, Refusal>
     ensures { RollsBack log.old used.len table.old handle result log.new table.new }
 {
-    finish(log, used, table, handle, Way::Rollback)
+    let Some(closing) = to_close(log, used, table, handle)? else {
+        return Ok(used);
+    };
+    let code = closing.code;
+    let bytes = code.bytes;
+    let n = code.len;
+    undo(
+        log,
+        table,
+        closing.mark,
+        closing.span,
+        handle.version,
+        &bytes[..n],
+    )
 }

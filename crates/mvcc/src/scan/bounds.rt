@@ -1,13 +1,10 @@
 // Bounds of user keys as bounds of Version keys, and a scan's step between them.
-ghost use Rattle.std.specs.Prelude.{◌≡◌, true};
-ghost use Rattle.keycode.specs.Order.{compare_bytes};
+ghost use Rattle.std.specs.Prelude.{◌≡◌, true, is_some};
 ghost use Rattle.keycode.specs.code.Codes.{Codes};
-ghost use Rattle.bitcask.specs.declared.answers.Bound.TheVariants.{Excluded};
-ghost use Rattle.bitcask.specs.read.Ranks.{admits_low};
 ghost use Rattle.bitcask.specs.engine.Views.{shown};
 ghost use Rattle.bitcask.specs.engine.Spots.{rank};
 ghost use Rattle.mvcc.specs.walk.Walks.{step_rows};
-ghost use Rattle.mvcc.specs.scan.Bounds.{key_fits, last_fits, keys_fit, low_kind, low_bytes, high_kind, high_bytes, start_rank, past_rows, scan_rows};
+ghost use Rattle.mvcc.specs.scan.Bounds.{key_fits, last_fits, last_in, keys_fit, low_kind, low_bytes, high_kind, high_bytes, start_rank, past_rows, scan_rows};
 
 use crate::handle::{Handle, LAST_VERSION};
 use crate::walk::step_from;
@@ -16,15 +13,13 @@ use bitcask::{Bound, KeyValue};
 use keycode::code::{Code, version_code};
 use keycode::limits::KEY_BYTES;
 use keycode::{Refusal, compare};
-use std::cmp::Ordering;
 
 fn low_kind(lower: Bound) -> Bound
     ensures { result ≡ low_kind lower }
 {
     match lower {
-        Bound::Included => Bound::Included,
-        Bound::Excluded => Bound::Excluded,
         Bound::Unbounded => Bound::Included,
+        kind => kind,
     }
 }
 
@@ -32,9 +27,8 @@ fn high_kind(upper: Bound) -> Bound
     ensures { result ≡ high_kind upper }
 {
     match upper {
-        Bound::Included => Bound::Included,
-        Bound::Excluded => Bound::Excluded,
         Bound::Unbounded => Bound::Excluded,
+        kind => kind,
     }
 }
 
@@ -63,30 +57,19 @@ fn high_code(upper: Bound, high: &[u8]) -> Code
     }
 }
 
-// Whether a key comes behind another.
-fn follows(key: &[u8], other: &[u8]) -> bool
-    ensures { result ≡ admits_low Excluded (compare_bytes key.now other.now) }
-{
-    match compare(key, other) {
-        Ordering::Less => false,
-        Ordering::Equal => false,
-        Ordering::Greater => true,
-    }
-}
-
 // Where a step starts: at the first row that the lower bound admits or, where that comes later, past the versions of the last given key.
 // Which comes later the two keys tell, so that one search will do.
-fn start(view: &View, lower: Bound, low: &[u8], given: bool, last: &[u8]) -> Spot
-    requires { last_fits given last.now ≡ true }
-    ensures { rank result (shown view.now) ≡ start_rank lower low.now given last.now (shown view.now) }
+fn start(view: &View, lower: Bound, low: &[u8], past: Option<&[u8]>) -> Spot
+    requires { last_fits (is_some past) (last_in past) ≡ true }
+    ensures { rank result (shown view.now) ≡ start_rank lower low.now (is_some past.entry) (last_in past.entry) (shown view.now) }
 {
-    if !given {
+    let Some(last) = past else {
         return view.first(lower, low);
-    }
+    };
     let code = low_code(Bound::Excluded, last);
     let bytes = code.bytes;
     let n = code.len;
-    if follows(low, &bytes[..n]) {
+    if compare(low, &bytes[..n]).is_gt() {
         return view.first(lower, low);
     }
     view.first(Bound::Excluded, &bytes[..n])
@@ -100,14 +83,13 @@ pub(crate) fn step_past(
     low: &[u8],
     upper: Bound,
     high: &[u8],
-    given: bool,
-    last: &[u8],
+    past: Option<&[u8]>,
 ) -> Result<KeyValue, Refusal>
-    requires { last_fits given last.now ≡ true }
+    requires { last_fits (is_some past) (last_in past) ≡ true }
     ensures { result
-        ≡ step_rows handle view.now.log.now (past_rows lower low.now upper high.now given last.now (shown view.now)) }
+        ≡ step_rows handle view.now.log.now (past_rows lower low.now upper high.now (is_some past.entry) (last_in past.entry) (shown view.now)) }
 {
-    let from = start(view, lower, low, given, last);
+    let from = start(view, lower, low, past);
     step_from(view, from, upper, high, handle)
 }
 
@@ -119,12 +101,11 @@ pub(crate) fn step_between(
     low: &[u8],
     upper: Bound,
     high: &[u8],
-    given: bool,
-    last: &[u8],
+    past: Option<&[u8]>,
 ) -> Result<KeyValue, Refusal>
-    requires { keys_fit lower low.now upper high.now given last.now ≡ true }
+    requires { keys_fit lower low.now upper high.now (is_some past) (last_in past) ≡ true }
     ensures { result
-        ≡ step_rows handle view.now.log.now (scan_rows lower low.now upper high.now given last.now (shown view.now)) }
+        ≡ step_rows handle view.now.log.now (scan_rows lower low.now upper high.now (is_some past.entry) (last_in past.entry) (shown view.now)) }
 {
     let a = low_code(lower, low);
     let from = a.bytes;
@@ -139,7 +120,6 @@ pub(crate) fn step_between(
         &from[..n],
         high_kind(upper),
         &to[..k],
-        given,
-        last,
+        past,
     )
 }

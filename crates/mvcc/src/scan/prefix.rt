@@ -1,9 +1,9 @@
 // The scan step of a transaction, over the user keys that begin with a prefix.
-ghost use Rattle.std.specs.Prelude.{◌≡◌, true, ◌≤◌, length};
+ghost use Rattle.std.specs.Prelude.{◌≡◌, true, ◌≤◌, length, is_some};
 ghost use Rattle.keycode.specs.code.Codes.{key_bytes};
 ghost use Rattle.bitcask.specs.engine.Views.{shown};
 ghost use Rattle.mvcc.specs.walk.Walks.{step_rows};
-ghost use Rattle.mvcc.specs.scan.Bounds.{Uppers, prefix_fits, prefix_rows};
+ghost use Rattle.mvcc.specs.scan.Bounds.{Uppers, last_in, prefix_fits, prefix_rows};
 ghost use Rattle.mvcc.specs.scan.Promises.{ScansPrefix};
 
 use crate::admission::admit;
@@ -31,22 +31,20 @@ fn upper_of(prefix: &[u8]) -> Upper
 {
     let mut bytes = [0u8; KEY_BYTES];
     match prefix_end(prefix) {
-        None => {
-            let code = Code { len: 0, bytes };
-            Upper {
-                bound: Bound::Unbounded,
-                code,
-            }
-        }
+        None => Upper {
+            bound: Bound::Unbounded,
+            code: Code { len: 0, bytes },
+        },
         Some(end) => {
             let keep = end.keep;
             copy_into(&prefix[..keep], &mut bytes, 0);
             bytes[keep] = end.last;
-            let len = keep + 1;
-            let code = Code { len, bytes };
             Upper {
                 bound: Bound::Excluded,
-                code,
+                code: Code {
+                    len: keep + 1,
+                    bytes,
+                },
             }
         }
     }
@@ -57,11 +55,10 @@ fn step_begun(
     view: &View,
     handle: Handle,
     prefix: &[u8],
-    given: bool,
-    last: &[u8],
+    past: Option<&[u8]>,
 ) -> Result<KeyValue, Refusal>
-    requires { prefix_fits prefix.now given last.now ≡ true }
-    ensures { result ≡ step_rows handle view.now.log.now (prefix_rows prefix.now given last.now (shown view.now)) }
+    requires { prefix_fits prefix.now (is_some past) (last_in past) ≡ true }
+    ensures { result ≡ step_rows handle view.now.log.now (prefix_rows prefix.now (is_some past.entry) (last_in past.entry) (shown view.now)) }
 {
     let code = prefix_code(prefix);
     let low = code.bytes;
@@ -78,8 +75,7 @@ fn step_begun(
         &low[..n],
         bound,
         &high[..k],
-        given,
-        last,
+        past,
     )
 }
 
@@ -95,9 +91,9 @@ pub fn scan_prefix_step(
     ensures { ScansPrefix log.now used.len table.now handle prefix.now given last.now result }
 {
     let view = admit(log, used, table, handle)?;
-    if prefix_fits(prefix, given, last) {
-        step_begun(&view, handle, prefix, given, last)
-    } else {
-        Err(Refusal::KeyTooLong)
+    let past = given.then_some(last);
+    if !prefix_fits(prefix, past) {
+        return Err(Refusal::KeyTooLong);
     }
+    step_begun(&view, handle, prefix, past)
 }

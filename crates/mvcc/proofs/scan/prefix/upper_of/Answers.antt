@@ -18,8 +18,8 @@ copy_into-requires c = let h = end_within c.args.prefix.now c.prefix_end.ensures
 pub bounds-bytes-keep : goal.bounds-bytes-keep
 bounds-bytes-keep c = omega (arith, c.requires, end_within c.args.prefix.now c.prefix_end.ensures _ c.in-Some.is)
 
-pub overflow_add-len : goal.overflow_add-len
-overflow_add-len c = omega (arith, c.requires, end_within c.args.prefix.now c.prefix_end.ensures _ c.in-Some.is)
+pub overflow_add-result : goal.overflow_add-result
+overflow_add-result c = omega (arith, c.requires, end_within c.args.prefix.now c.prefix_end.ensures _ c.in-Some.is)
 
 pub returns-in-None : goal.returns-in-None
 returns-in-None c = let a = c.args in upper_open a.prefix.now c.prefix_end.ensures (replicate {A = ℕ} key_bytes 0) refl c.in-None.is
