@@ -49,6 +49,7 @@ fn in_order(log: &[u8], slots: Slots<'_>, i: usize) -> bool
 fn rising(log: &[u8], slots: Slots<'_>) -> bool
     ensures { result ≡ risen log.now (slots_of slots.entry.count slots.entry.table.now) }
 {
+    // By hand: the closure of an `all` has to be callable for every index, and these are those below `count` alone.
     for i in 1..slots.count {
         if !in_order(log, slots, i - 1) {
             return false;
