@@ -16,7 +16,8 @@ use bitcask::Used;
 use keycode::Refusal;
 use keycode::parts::clip;
 
-// The commands that a handle is wanted for.
+// The commands that a handle is wanted for. By hand, here and in `carry`: in the last arm of a `match` on numbers the proof was not told that
+// the command is none of those before.
 fn carry_handle(
     log: &mut [u8],
     used: Used,

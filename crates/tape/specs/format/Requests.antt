@@ -55,6 +55,6 @@ all_zero (x ∷ xs) = pick (eqb x 0) (all_zero xs) false
 unfoldable pub cleared : List ℕ → ℕ → ℕ → Bool
 cleared r klen vlen = pick (all_zero (take (value_at - (key_at + klen)) (drop (key_at + klen) r))) (all_zero (drop (value_at + vlen) r)) false
 
--- a record that stands as document 01 lays it out
+-- a record that is laid out as a request must be
 unfoldable pub proper : List ℕ → Bool
 proper r = pick (modest (fields_of r)) (cleared r (fields_of r).klen (fields_of r).vlen) false

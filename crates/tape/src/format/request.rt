@@ -6,7 +6,8 @@ ghost use Rattle.tape.specs.format.Requests.{fields_of, between as between_by, s
 use crate::format::layout::{KEY_AT, KEY_ROOM, VALUE_AT, VALUE_ROOM};
 use keycode::number::get_number;
 
-// A request as its record has it: the bytes are numbers of the tape's own, whatever they are.
+// A request as its record has it. By hand: the command stays the tape's number, since a bad record is answered with whatever number it
+// had, and the definitions of what each command does are by that number.
 #[derive(Clone, Copy, Debug, PartialEq, Eq)]
 pub struct Request {
     pub command: u8,
@@ -29,6 +30,7 @@ pub(crate) fn fields(bytes: &[u8]) -> Request
     }
 }
 
+// Whether a command's number lies between two others, both included.
 fn between(low: u8, high: u8, command: u8) -> bool
     ensures { result ≡ between_by low high command }
 {
@@ -63,7 +65,8 @@ fn version_most(command: u8) -> u64
     if command == 3 { u64::MAX } else { 0 }
 }
 
-// A known command, and each field as large as that command lets it be.
+// A known command, and each field as large as that command lets it be. By hand: of one `&&` over the five tests the proof was left open at
+// its last two, where what the tests before them answered is known by cases only.
 fn modest(q: Request) -> bool
     ensures { result ≡ modest_by q }
 {
