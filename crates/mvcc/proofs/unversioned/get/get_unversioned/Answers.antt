@@ -28,7 +28,7 @@ pub returns-in_err-mark : goal.returns-in_err-mark
 returns-in_err-mark c = let a = c.args in let e : c.from_residual.result ≡ Err c.in_err-mark.field-0.0 = search rules in rw e (unversioned-bad a.log.now a.used a.table.now a.key.now c.enter.ensures _ c.in_err-mark.was)
 
 pub returns : goal.returns
-returns c = let a = c.args in unversioned-at a.log.now a.used a.table.now a.key.now c.enter.ensures _ c.in_ok-mark.was c.if-key-gt-MAX_KEY.false c.unversioned_code-code.ensures _ c.find.ensures _ c.in-Ok.is c.value_place.ensures.0
+returns c = let a = c.args in unversioned-at a.log.now a.used a.table.now a.key.now c.enter.ensures _ c.in_ok-mark.was (omega arith) c.unversioned_code-code.ensures _ c.find.ensures _ c.in-Ok.is c.value_place.ensures.0
 
 pub returns-in_default : goal.returns-in_default
-returns-in_default c = let a = c.args in unversioned_absent a.log.now a.used a.table.now a.key.now c.enter.ensures _ c.in_ok-mark.was c.if-key-gt-MAX_KEY.false c.unversioned_code-code.ensures _ c.find.ensures _ c.in_default.is
+returns-in_default c = let a = c.args in unversioned_absent a.log.now a.used a.table.now a.key.now c.enter.ensures _ c.in_ok-mark.was (omega arith) c.unversioned_code-code.ensures _ c.find.ensures _ c.in_default.is
