@@ -2,16 +2,11 @@ use Prim.Native.Nat.{ℕ}
 use mathlib.Core.Path.{sym, subst}
 use Rattle.bitcask.specs.keydir.Slots.{slots_of}
 use Rattle.bitcask.proofs.check.TellLaws.{Walking, walking_start, walking_end, walking_cut, walking_wrong, walking_less, walking_early, walking_exact, seen_stands}
-use borrow.Author.Rules.{rules}
-use native.Mathlib.Omega.{arith}
 use Rattle.bitcask.proofs.check.walk.Goals as goal
 use Rattle.bitcask.proofs.check.walk.Goals.{in-Early, in-Exact}
 
 pub loop-e-init : goal.loop-e-init
 loop-e-init c = let a = c.args in walking_start a.log.now a.used (slots_of a.slots.count a.slots.table.now)
-
-pub entry_from-requires : goal.entry_from-requires
-entry_from-requires c = let w = c.loop-e.invariant.within in search rules
 
 pub returns-then-at-used : goal.returns-then-at-used
 returns-then-at-used c = walking_end c.loop-e.invariant c.entry_from.ensures c.in_default.is c.if-at-used.true
@@ -24,9 +19,6 @@ judge-requires c = let a = c.args in ((seen_stands a.log.now a.used c.loop-e.at 
 
 pub returns-in-Wrong : goal.returns-in-Wrong
 returns-in-Wrong c = walking_wrong c.loop-e.invariant c.entry_from.ensures _ c.in-Some.is c.judge.ensures c.in-Wrong.is
-
-pub overflow_add-met : goal.overflow_add-met
-overflow_add-met c = let w = c.loop-e.invariant in omega (arith, w.few, w.within)
 
 pub loop-e-smaller : goal.loop-e-smaller
 loop-e-smaller c = walking_less c.loop-e.invariant c.entry_from.ensures _ c.in-Some.is c.judge.ensures _ c.past-at.ensures

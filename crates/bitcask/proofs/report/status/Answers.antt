@@ -8,9 +8,6 @@ use Rattle.bitcask.proofs.report.status.Goals as goal
 pub returns-then-not-fits : goal.returns-then-not-fits
 returns-then-not-fits c = let a = c.args in counting-bad a.log.now a.used.len a.table.now (sym c.fits.ensures ∙ c.if-not-fits.true)
 
-pub overflow_mul-result : goal.overflow_mul-result
-overflow_mul-result c = let a = c.args in let h = counting-room a.log.now a.used.len a.table.now (sym c.fits.ensures ∙ c.if-not-fits.false) c.count-keys.ensures c.live_upto.ensures _ c.in-Some.is in omega arith
-
 pub overflow_sub-result : goal.overflow_sub-result
 overflow_sub-result c = let a = c.args in counting-room a.log.now a.used.len a.table.now (sym c.fits.ensures ∙ c.if-not-fits.false) c.count-keys.ensures c.live_upto.ensures _ c.in-Some.is
 
