@@ -83,13 +83,13 @@ module _ (log : List ℕ) (used at : ℕ) {k : ℕ} (ek : k ≡ word_at log at) 
         let s : 8 + k + n ≡ size_read (head_at log at) = ap size_read (read_head (Some (Set k n)) (rw e)) in
         sym (entry_cut log used at (omega arith))
 
-    pub read_set_lem : (n : ℕ) → l ≡ Some n → at + 8 + k + n ≤ used →  (Some (Set k n)) ≡ entry_at log used at
+    pub read_set_lem : (n : ℕ) → l ≡ Some n → at + 8 + k + n ≤ used → (Some (Set k n)) ≡ entry_at log used at
     read_set_lem n e h =
         let q : (Some (Set k n)) ≡ head_at log at = read_head (Some (Set k n)) (rw e) in
         let s : 8 + k + n ≡ size_read (head_at log at) = ap size_read q in
         q ∙ sym (entry_whole log used at (omega arith))
 
-    pub read_del : l ≡ None → at + 8 + k ≤ used →  (Some (Del k)) ≡ entry_at log used at
+    pub read_del : l ≡ None → at + 8 + k ≤ used → (Some (Del k)) ≡ entry_at log used at
     read_del e h =
         let q : (Some (Del k)) ≡ head_at log at = read_head (Some (Del k)) (rw e) in
         let s : 8 + k ≡ size_read (head_at log at) = ap size_read q in
