@@ -87,7 +87,7 @@ pub(crate) fn put_version(version: u64, out: &mut [u8])
     put_number(version, VERSION_BYTES, out, 0);
 }
 
-// Lays versions at the front of a lent buffer, and returns the index after them.
+// Lays versions at the front of a lent buffer, and returns the index after them, which is counted along for that reason.
 fn put_versions(set: &[u64], out: &mut [u8]) -> usize
     requires { 8 * length set.now ≤ length out.old }
     ensures { (result ≡ length (set_bytes set.now)) × (out.new ≡ put out.old 0 (set_bytes set.now)) }

@@ -14,7 +14,7 @@ use bitcask::Bound;
 use bitcask::engine::{Spot, View};
 use keycode::{Key, Part, decode};
 
-// What a record says. Hidden goes on to the record below; the others decide.
+// What a record says. Hidden goes on to the record below; the others decide. Four cases of their own: none of them is an error of a call.
 #[derive(Clone, Copy)]
 pub enum Seen {
     Hidden,
