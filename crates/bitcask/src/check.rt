@@ -10,7 +10,7 @@ ghost use Rattle.bitcask.specs.check.Told.{zeroed, is_less, is_equal, risen, ahe
 ghost use Rattle.bitcask.specs.check.Promises.{Tells};
 
 use crate::entry::{Lengths, entry_at};
-use crate::keydir::{SLOT_WORDS, Slot, count, find, key_of, slot_at};
+use crate::keydir::{SLOT_WORDS, Slot, Slots, count, find, key_of, slot_at};
 use crate::request::{Used, fits};
 use keycode::compare;
 
@@ -37,21 +37,21 @@ fn zeros(words: &[u32]) -> bool
 }
 
 // Whether a slot's key is below the next one's.
-fn in_order(log: &[u8], table: &[u32], count: usize, i: usize) -> bool
-    requires { (i + 1 < count) × (slot_words * count ≤ length table.now) }
-    ensures { result ≡ is_less (compare_bytes (key_of log.now (get_or (slots_of count table.now) i free_slot)) (key_of log.now (get_or (slots_of count table.now) (i + 1) free_slot))) }
+fn in_order(log: &[u8], slots: Slots<'_>, i: usize) -> bool
+    requires { i + 1 < slots.count }
+    ensures { result ≡ is_less (compare_bytes (key_of log.now (get_or (slots_of slots.entry.count slots.entry.table.now) i free_slot)) (key_of log.now (get_or (slots_of slots.entry.count slots.entry.table.now) (i + 1) free_slot))) }
 {
-    let key = key_of(log, slot_at(table, i));
-    compare(key, key_of(log, slot_at(table, i + 1))).is_lt()
+    let key = key_of(log, slot_at(slots.table, i));
+    compare(key, key_of(log, slot_at(slots.table, i + 1))).is_lt()
 }
 
 // Whether the keys of the first `count` slots strictly rise.
-fn rising(log: &[u8], table: &[u32], count: usize) -> bool
-    requires { slot_words * count ≤ length table.now }
-    ensures { result ≡ risen log.now (slots_of count table.now) }
+fn rising(log: &[u8], slots: Slots<'_>) -> bool
+    ensures { result ≡ risen log.now (slots_of slots.entry.count slots.entry.table.now) }
 {
-    for i in 1..count {
-        if !in_order(log, table, count, i - 1) {
+    // By hand: the closure of an `all` has to be callable for every index, and these are those below `count` alone.
+    for i in 1..slots.count {
+        if !in_order(log, slots, i - 1) {
             return false;
         }
     }
@@ -119,13 +119,13 @@ fn against(s: Slot, x: Slot, gone: bool) -> Judged
 }
 
 // An entry against the slot of its key, or, where there is none, against the entries behind it.
-fn judge(log: &[u8], used: usize, table: &[u32], count: usize, e: Seen) -> Judged
-    requires { (e.slot.place + 7 + e.slot.klen + e.slot.vlen ≤ used) × (used ≤ max_log) × (slot_words * count ≤ length table.now) }
-    ensures { result ≡ judged_in log.now (slots_of count table.now) (item_seen e) (items log.now used (e.slot.place + 7 + e.slot.klen + e.slot.vlen)) }
+fn judge(log: &[u8], used: usize, slots: Slots<'_>, e: Seen) -> Judged
+    requires { (e.slot.place + 7 + e.slot.klen + e.slot.vlen ≤ used) × (used ≤ max_log) }
+    ensures { result ≡ judged_in log.now (slots_of slots.entry.count slots.entry.table.now) (item_seen e) (items log.now used (e.slot.place + 7 + e.slot.klen + e.slot.vlen)) }
 {
     let key = key_of(log, e.slot);
-    match find(log, table, count, key) {
-        Ok(j) => against(slot_at(table, j), e.slot, e.gone),
+    match find(log, slots.table, slots.count, key) {
+        Ok(j) => against(slot_at(slots.table, j), e.slot, e.gone),
         Err(_) => {
             if e.gone || later(log, used, past(e.slot), key) {
                 Judged::Early
@@ -137,14 +137,14 @@ fn judge(log: &[u8], used: usize, table: &[u32], count: usize, e: Seen) -> Judge
 }
 
 // How many of the entries, one after the other up to the used length, are a slot's; None where one is wrong or they end before.
-fn walk(log: &[u8], used: usize, table: &[u32], count: usize) -> Option<usize>
-    requires { (used ≤ max_log) × (slot_words * count ≤ length table.now) }
-    ensures { result ≡ walked_in log.now used (slots_of count table.now) 0 (items log.now used 0) }
+fn walk(log: &[u8], used: usize, slots: Slots<'_>) -> Option<usize>
+    requires { used ≤ max_log }
+    ensures { result ≡ walked_in log.now used (slots_of slots.entry.count slots.entry.table.now) 0 (items log.now used 0) }
 {
     let mut at = 0;
     let mut met = 0;
     while let Some(e) = entry_from(log, used, at) {
-        match judge(log, used, table, count, e) {
+        match judge(log, used, slots, e) {
             Judged::Wrong => {
                 return None;
             }
@@ -167,5 +167,6 @@ pub fn agrees(log: &[u8], used: Used, table: &[u32]) -> bool
         return false;
     }
     let n = count(table);
-    zeros(&table[SLOT_WORDS * n..]) && rising(log, table, n) && walk(log, len, table, n) == Some(n)
+    let slots = Slots { table, count: n };
+    zeros(&table[SLOT_WORDS * n..]) && rising(log, slots) && walk(log, len, slots) == Some(n)
 }

@@ -11,7 +11,7 @@ ghost use Rattle.bitcask.specs.compaction.Promises.{Compacts};
 
 use crate::entry::put_set;
 use crate::keydir::slots::store;
-use crate::keydir::{SLOT_WORDS, Slot, count, key_of, slot_at, value_of};
+use crate::keydir::{SLOT_WORDS, Slot, Slots, count, key_of, slot_at, value_of};
 use crate::report::live_upto;
 use crate::request::{Used, fits};
 use keycode::Refusal;
@@ -62,7 +62,7 @@ pub fn compact(
         return Err(Refusal::BadRequest);
     }
     let n = count(table);
-    live_upto(table, n, room).ok_or(Refusal::LogFull)?;
+    live_upto(Slots { table, count: n }, room).ok_or(Refusal::LogFull)?;
     let len = move_all(log, table, n, target);
     Ok(Used { len })
 }

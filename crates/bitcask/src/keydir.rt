@@ -5,4 +5,4 @@ pub mod slots;
 
 pub(crate) use crate::keydir::place::{enter, find, leave};
 pub use crate::keydir::slots::{SLOT_WORDS, Slot, key_of};
-pub(crate) use crate::keydir::slots::{count, remove_span, slot_at, value_of};
+pub(crate) use crate::keydir::slots::{Slots, count, remove_span, slot_at, value_of};

@@ -5,7 +5,7 @@ ghost use Rattle.bitcask.specs.recovery.Recover.{live as live_of};
 ghost use Rattle.bitcask.specs.compaction.Compaction.{capped};
 ghost use Rattle.bitcask.specs.compaction.Promises.{Counting};
 
-use crate::keydir::{count, slot_at};
+use crate::keydir::{Slots, count, slot_at};
 use crate::request::{Used, fits};
 use keycode::Refusal;
 
@@ -25,14 +25,13 @@ fn entry_bytes(klen: u32, vlen: u32) -> usize
     8 + klen as usize + vlen as usize
 }
 
-// The bytes of the entries of the first `count` slots; None where they are more than the cap.
-pub(crate) fn live_upto(table: &[u32], count: usize, cap: usize) -> Option<usize>
-    requires { slot_words * count ≤ length table.now }
-    ensures { result ≡ capped cap (live_of (slots_of count table.now)) }
+// The bytes of the entries of some slots; None where they are more than the cap.
+pub(crate) fn live_upto(slots: Slots<'_>, cap: usize) -> Option<usize>
+    ensures { result ≡ capped cap (live_of (slots_of slots.entry.count slots.entry.table.now)) }
 {
     let mut total = 0;
-    for i in 0..count {
-        let s = slot_at(table, i);
+    for i in 0..slots.count {
+        let s = slot_at(slots.table, i);
         let n = entry_bytes(s.klen, s.vlen);
         if cap - total < n {
             return None;
@@ -51,7 +50,7 @@ pub fn status(log: &[u8], used: Used, table: &[u32]) -> Result<Counts, Refusal>
         return Err(Refusal::BadRequest);
     }
     let keys = count(table);
-    match live_upto(table, keys, end) {
+    match live_upto(Slots { table, count: keys }, end) {
         None => Ok(Counts {
             keys: 0,
             size: 0,

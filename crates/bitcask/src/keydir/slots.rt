@@ -52,6 +52,14 @@ impl Slot {
     }
 }
 
+// The first `count` slots of a table that is only read.
+#[derive(Clone, Copy)]
+pub(crate) struct Slots<'a> {
+    pub table: &'a [u32],
+    pub count: usize,
+    ghost within: { slot_words * count ≤ length table.now },
+}
+
 // The i-th slot.
 pub(crate) fn slot_at(table: &[u32], i: usize) -> Slot
     requires { slot_words * i + slot_words ≤ length table.now }

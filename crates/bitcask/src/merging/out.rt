@@ -6,6 +6,7 @@ ghost use Rattle.bitcask.specs.merging.Passes.{TakesOne, TakesAll};
 
 use crate::keydir::{SLOT_WORDS, find, key_of, slot_at};
 
+// The gap: from slot `to` up to slot `from`.
 #[derive(Clone, Copy, Debug, PartialEq, Eq)]
 pub struct Gap {
     pub to: usize,

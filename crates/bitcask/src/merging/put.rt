@@ -17,7 +17,8 @@ pub(crate) fn is_gone(s: Slot) -> bool
     s.vlen == GONE
 }
 
-// How many of those that wait are new.
+// How many of those that wait are new. By hand: the closure of a `filter` has to be callable for every index, and a slot can be read below
+// `waiting` alone.
 pub(crate) fn count_new(pend: &[u32], waiting: usize) -> usize
     requires { slot_words * waiting ≤ length pend.now }
     ensures { result ≡ news (slots_of waiting pend.now) }

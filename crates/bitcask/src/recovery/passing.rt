@@ -82,6 +82,7 @@ fn pass_with(
         waiting: 0,
         live: count,
     };
+    // By hand: how many are left is part of the answer.
     while 0 < left {
         h = make_room(log, table, pend, h);
         let Some(next) = take_entry(log, used, table, pend, h, at)? else {

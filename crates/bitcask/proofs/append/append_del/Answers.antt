@@ -3,20 +3,8 @@ use Rattle.bitcask.specs.entry.Entry.{del as del_entry}
 use Rattle.bitcask.proofs.change.AppendLaws.{found_among, appended-is, del_becomes}
 use Rattle.bitcask.proofs.append.append_del.Goals as goal
 
-pub find-found-requires : goal.find-found-requires
-find-found-requires c = c.requires.2
-
-pub put_del-used-requires : goal.put_del-used-requires
-put_del-used-requires c = (c.requires.0, c.requires.1)
-
 pub leave-n-requires : goal.leave-n-requires
 leave-n-requires c = (found_among c.args.log.now c.args.key.now c.args.table.now _ _ c.find-found.ensures, c.requires.2)
-
-pub shape_of-log : goal.shape_of-log
-shape_of-log c = c.put_del-used.auto.log
-
-pub shape_of-table : goal.shape_of-table
-shape_of-table c = c.leave-n.auto.table
 
 pub returns : goal.returns
 returns c =

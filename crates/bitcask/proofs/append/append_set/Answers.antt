@@ -4,20 +4,8 @@ use Rattle.bitcask.specs.entry.Entry.{set as set_entry}
 use Rattle.bitcask.proofs.change.AppendLaws.{found_among, appended-is, set_becomes}
 use Rattle.bitcask.proofs.append.append_set.Goals as goal
 
-pub find-found-requires : goal.find-found-requires
-find-found-requires c = c.requires.2
-
-pub put_set-used-requires : goal.put_set-used-requires
-put_set-used-requires c = (c.requires.0, c.requires.1)
-
 pub enter-n-requires : goal.enter-n-requires
 enter-n-requires c = (found_among c.args.log.now c.args.key.now c.args.table.now _ _ c.find-found.ensures, c.requires.2)
-
-pub shape_of-log : goal.shape_of-log
-shape_of-log c = c.put_set-used.auto.log
-
-pub shape_of-table : goal.shape_of-table
-shape_of-table c = c.enter-n.auto.table
 
 pub returns : goal.returns
 returns c =

@@ -32,12 +32,6 @@ returns-in_err-judged c =
     rw (p.1, p.2) (change_refused a.log.now a.used.len a.table.now (del_entry a.key.now) (sym c.fits.ensures ∙ c.if-not-fits.false) _
     (judged_by_lem a.log.now a.used.len a.table.now (del_entry a.key.now) _ 0 _ _ c.count-n.ensures c.room_after-room.ensures refl c.judged.ensures) _ c.in_err-judged.was)
 
-pub shape_of-log : goal.shape_of-log
-shape_of-log c = c.append_del-mark.auto.log
-
-pub shape_of-table : goal.shape_of-table
-shape_of-table c = c.append_del-mark.auto.table
-
 pub returns : goal.returns
 returns c =
     let a = c.args in

@@ -38,12 +38,6 @@ returns-in_err-judged c =
     (judged_by_lem a.log.now a.used.len a.table.now (set_entry a.key.now a.value.now) _ _ _ _ c.count-n.ensures c.room_after-room.ensures
     (fresh_by a.log.now a.table.now a.key.now _ _ c.count-n.ensures c.fresh.ensures) c.judged.ensures) _ c.in_err-judged.was)
 
-pub shape_of-log : goal.shape_of-log
-shape_of-log c = c.append_set-mark.auto.log
-
-pub shape_of-table : goal.shape_of-table
-shape_of-table c = c.append_set-mark.auto.table
-
 pub returns : goal.returns
 returns c =
     let a = c.args in

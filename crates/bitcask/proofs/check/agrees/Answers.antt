@@ -23,13 +23,10 @@ slice_bounds-zeros-start c = omega (arith, count-within c.args.table.now, c.coun
 pub slice_bounds-zeros-count : goal.slice_bounds-zeros-count
 slice_bounds-zeros-count c = omega (arith, count-within c.args.table.now, c.count-n.ensures)
 
-pub rising-requires : goal.rising-requires
-rising-requires c = omega (arith, count-within c.args.table.now, c.count-n.ensures)
-
 pub walk-requires : goal.walk-requires
 walk-requires c =
     let a = c.args in let s = fit-sound (length a.log.now) a.used.len (length a.table.now) (sym c.fits.ensures ∙ c.if-not-fits.false) in
-    (omega arith, omega (arith, count-within a.table.now, c.count-n.ensures))
+    omega arith
 
 pub returns-then-not-fits : goal.returns-then-not-fits
 returns-then-not-fits c = let a = c.args in tell_unfit a.log.now a.used.len a.table.now c.fits.ensures c.if-not-fits.true
@@ -52,3 +49,6 @@ returns-else-rising c =
       | then-zeros w ↦ subst P (sym c.if-rising.false) (tell_unsorted a.log.now a.used.len a.table.now c.count-n.ensures w.rising.ensures (sym w.value-is ∙ c.if-rising.false))
       | else-zeros w ↦ subst P (sym c.if-rising.false) (tell_more a.log.now a.used.len a.table.now c.count-n.ensures (zeros_behind a.log.now a.used.len a.table.now c.count-n.ensures c.zeros.ensures) w.if-zeros.false)
     ]
+
+pub invariant_of-slots : goal.invariant_of-slots
+invariant_of-slots c = record { within = omega (arith, count-within c.args.table.now, c.count-n.ensures) }

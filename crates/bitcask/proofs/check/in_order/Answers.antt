@@ -7,4 +7,4 @@ pub returns : goal.returns
 returns c =
     let a = c.args in
     c.is_lt.ensures ∙ less-is c.compare.result
-    ∙ pair_is a.log.now a.table.now a.count a.i c.requires.0 c.slot_at.ensures c.slot_at-2.ensures c.key_of-key.ensures c.key_of.ensures c.compare.ensures
+    ∙ pair_is a.log.now a.slots.table.now a.slots.count a.i c.requires c.slot_at.ensures c.slot_at-2.ensures c.key_of-key.ensures c.key_of.ensures c.compare.ensures

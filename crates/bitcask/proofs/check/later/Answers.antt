@@ -1,12 +1,8 @@
 use Rattle.bitcask.proofs.check.TellLaws.{looking_start, looking-over, looking-here, looking-next, looking_less}
-use borrow.Author.Rules.{rules}
 use Rattle.bitcask.proofs.check.later.Goals as goal
 
 pub loop-e-init : goal.loop-e-init
 loop-e-init c = looking_start _ _ _ _ c.requires.0
-
-pub entry_from-requires : goal.entry_from-requires
-entry_from-requires c = let w = c.loop-e.invariant.within in search rules
 
 pub returns : goal.returns
 returns c = looking-over c.loop-e.invariant c.entry_from.ensures c.in_default.is

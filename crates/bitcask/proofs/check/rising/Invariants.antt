@@ -7,4 +7,4 @@ use Rattle.bitcask.specs.check.Told.{risen}
 use Rattle.bitcask.proofs.check.rising.Given as goal
 
 abbrev pub invariant-loop-i : goal.invariant-loop-i
-invariant-loop-i l = risen l.log (slots_of l.count l.table) ≡ risen l.log (drop (l.i - 1) (slots_of l.count l.table))
+invariant-loop-i l = risen l.log (slots_of l.slots.count l.slots.table.now) ≡ risen l.log (drop (l.i - 1) (slots_of l.slots.count l.slots.table.now))

@@ -14,9 +14,6 @@ returns-then-not-fits c = let a = c.args in compact_unfit a.log.now a.used.len a
 pub returns-then-room-gt-MAX_LOG : goal.returns-then-room-gt-MAX_LOG
 returns-then-room-gt-MAX_LOG c = let a = c.args in compact_large a.log.now a.used.len a.table.now a.target.now (sym c.fits.ensures ∙ c.if-not-fits.false) c.if-room-gt-MAX_LOG.true
 
-pub live_upto-requires : goal.live_upto-requires
-live_upto-requires c = rw c.count-n.ensures (count-within c.args.table.now)
-
 pub returns-in_err-ok_or : goal.returns-in_err-ok_or
 returns-in_err-ok_or c =
     let a = c.args in
@@ -40,3 +37,6 @@ returns c =
     let e : c.live_upto.result ≡ Some c.in_ok-ok_or.field-0 = grind arith in
     compact_done a.log.now a.used.len a.table.now a.target.now (sym c.fits.ensures ∙ c.if-not-fits.false) c.if-room-gt-MAX_LOG.false c.count-n.ensures c.live_upto.ensures _ e
     (rw c.count-n.ensures (count-within a.table.now)) c.move_all-len.ensures
+
+pub invariant_of-live_upto : goal.invariant_of-live_upto
+invariant_of-live_upto c = record { within = omega (arith, count-within c.args.table.now, c.count-n.ensures) }

@@ -1,4 +1,4 @@
-use Rattle.bitcask.proofs.compaction.MoveLaws.{moving_start, moving_words, moving_bytes, moving_room, moving_more, moving_end}
+use Rattle.bitcask.proofs.compaction.MoveLaws.{moving_start, moving_room, moving_more, moving_end}
 use Rattle.bitcask.proofs.compaction.move_all.Goals as goal
 
 pub loop-i-init : goal.loop-i-init
@@ -9,12 +9,6 @@ move_slot-to-requires c = let a = c.args in moving_room a.log.now a.table.now a.
 
 pub loop-i-preserved : goal.loop-i-preserved
 loop-i-preserved c = let a = c.args in moving_more a.log.now a.table.now a.target.now a.count c.loop-i.invariant c.requires.0 c.requires.1 c.loop-i-test.true c.move_slot-to.ensures
-
-pub shape_of-table : goal.shape_of-table
-shape_of-table c = let a = c.args in moving_words a.log.now a.table.now a.target.now a.count c.loop-i.invariant c.requires.0 c.requires.1
-
-pub shape_of-target : goal.shape_of-target
-shape_of-target c = let a = c.args in moving_bytes a.log.now a.table.now a.target.now a.count c.loop-i.invariant c.requires.0 c.requires.1
 
 pub returns : goal.returns
 returns c = let a = c.args in moving_end a.log.now a.table.now a.target.now a.count c.loop-i.invariant c.requires.0 c.requires.1 c.loop-i-test.false

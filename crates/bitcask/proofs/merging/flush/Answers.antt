@@ -1,6 +1,5 @@
 -- `flush` is the two passes.
 use native.Mathlib.Omega.{arith}
-use mathlib.Core.Path.{◌∙◌}
 use Rattle.bitcask.specs.keydir.Slots.{slots_of}
 use Rattle.bitcask.proofs.keydir.SlotLaws.{slots_length}
 use Rattle.bitcask.proofs.merging.PutLaws.{news_most}
@@ -19,20 +18,11 @@ overflow_add-n c =
           a.waiting a.pend.now,
     )
 
-pub shape_of-table-then-table-n : goal.shape_of-table-then-table-n
-shape_of-table-then-table-n c = c.take_all-n.auto.table
-
 pub returns-then-table-n : goal.returns-then-table-n
 returns-then-table-n c =
     let a = c.args in
     flush_full a.log.now a.table.now a.count (slots_of a.waiting a.pend.now) c.requires.0 c.take_all-n.ensures
     c.take_all-n.auto.table c.count_new-new.ensures c.if-table-n.true
-
-pub put_all-requires : goal.put_all-requires
-put_all-requires c = (omega arith, c.requires.1, c.count_new-new.ensures)
-
-pub shape_of-table : goal.shape_of-table
-shape_of-table c = c.put_all.auto.table ∙ c.take_all-n.auto.table
 
 pub returns : goal.returns
 returns c =

@@ -3,12 +3,6 @@ use Rattle.bitcask.specs.keydir.Slots.{slots_of}
 use Rattle.bitcask.proofs.read.RankLaws.{from_included, from_excluded, from_unbounded}
 use Rattle.bitcask.proofs.rank.from_bound.Goals as goal
 
-pub below-requires : goal.below-requires
-below-requires c = c.requires
-
-pub upto-requires : goal.upto-requires
-upto-requires c = c.requires
-
 pub returns-in-Included : goal.returns-in-Included
 returns-in-Included c = from_included _ c.args.log.now c.args.key.now (slots_of c.args.count c.args.table.now) _ _ c.in-Included.is c.below.ensures
 

@@ -3,9 +3,6 @@ use Rattle.bitcask.proofs.read.RankLaws.{found_at, upto-at, upto_before}
 use native.Mathlib.Omega.{arith}
 use Rattle.bitcask.proofs.rank.upto.Goals as goal
 
-pub find-requires : goal.find-requires
-find-requires c = c.requires
-
 pub overflow_add-result : goal.overflow_add-result
 overflow_add-result c = omega (arith, found_at c.args.log.now c.args.key.now c.args.table.now c.args.count _ c.find.ensures c.in-Ok.i c.in-Ok.is)
 

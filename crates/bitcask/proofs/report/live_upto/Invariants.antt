@@ -4,7 +4,7 @@ use Rattle.bitcask.proofs.compaction.LiveLaws.{Summing}
 use Rattle.bitcask.proofs.report.live_upto.Given as goal
 
 abbrev pub invariant-loop-i : goal.invariant-loop-i
-invariant-loop-i l = Summing l.table l.count l.cap l.total l.i
+invariant-loop-i l = Summing l.slots.table.now l.slots.count l.cap l.total l.i
 
 abbrev pub decreases-loop-i : goal.decreases-loop-i
-decreases-loop-i l = l.count - l.i
+decreases-loop-i l = l.slots.count - l.i

@@ -8,12 +8,6 @@ use Rattle.bitcask.proofs.report.status.Goals as goal
 pub returns-then-not-fits : goal.returns-then-not-fits
 returns-then-not-fits c = let a = c.args in counting-bad a.log.now a.used.len a.table.now (sym c.fits.ensures ∙ c.if-not-fits.true)
 
-pub live_upto-requires : goal.live_upto-requires
-live_upto-requires c = rw c.count-keys.ensures (count-within c.args.table.now)
-
-pub overflow_mul-result : goal.overflow_mul-result
-overflow_mul-result c = let a = c.args in let h = counting-room a.log.now a.used.len a.table.now (sym c.fits.ensures ∙ c.if-not-fits.false) c.count-keys.ensures c.live_upto.ensures _ c.in-Some.is in omega arith
-
 pub overflow_sub-result : goal.overflow_sub-result
 overflow_sub-result c = let a = c.args in counting-room a.log.now a.used.len a.table.now (sym c.fits.ensures ∙ c.if-not-fits.false) c.count-keys.ensures c.live_upto.ensures _ c.in-Some.is
 
@@ -22,3 +16,6 @@ returns-in-None c = let a = c.args in counting-over a.log.now a.used.len a.table
 
 pub returns-in-Some : goal.returns-in-Some
 returns-in-Some c = let a = c.args in counting_done a.log.now a.used.len a.table.now (sym c.fits.ensures ∙ c.if-not-fits.false) c.count-keys.ensures c.live_upto.ensures _ c.in-Some.is
+
+pub invariant_of-live_upto : goal.invariant_of-live_upto
+invariant_of-live_upto c = record { within = omega (arith, count-within c.args.table.now, c.count-keys.ensures) }

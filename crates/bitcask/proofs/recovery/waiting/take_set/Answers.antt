@@ -3,10 +3,8 @@ use mathlib.Core.Path.{sym, subst}
 use Prim.Native.Nat.{ℕ}
 use native.Mathlib.Omega.{arith}
 use Rattle.std.specs.Prelude.{false, Ok}
-use Rattle.bitcask.specs.keydir.Slots.{slots_of}
 use Rattle.bitcask.specs.recovery.Waiting.{Enters}
 use Rattle.bitcask.proofs.recovery.EnterLaws.{pend_among, set_full, set-again, set-over}
-use Rattle.bitcask.proofs.recovery.SettleLaws.{key-place}
 use Rattle.bitcask.proofs.recovery.waiting.take_set.Goals as goal
 use Rattle.bitcask.proofs.recovery.waiting.take_set.Goals.{then-waits_gone+else-table-h, else-waits_gone}
 
@@ -28,17 +26,6 @@ enter-waiting-requires c =
       pend_among a.log.now a.table.now a.pend.now a.h a.s c.requires.0 c.requires.1 _
           c.find-held.ensures,
       omega (arith, c.requires.1),
-    )
-
-pub take_new-requires : goal.take_new-requires
-take_new-requires c =
-    let a = c.args in (
-      c.requires.0,
-      c.requires.1,
-      c.requires.2,
-      key-place a.log.now a.s (slots_of a.h.waiting a.pend.now)
-          c.key_of.ensures c.find-held.ensures
-          c.in-Err.is,
     )
 
 pub returns-after-waits_gone : goal.returns-after-waits_gone

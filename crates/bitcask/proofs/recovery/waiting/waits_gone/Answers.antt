@@ -1,13 +1,6 @@
 -- `recovery::waiting::waits_gone` meets its contract. Assumes nothing.
-use native.Mathlib.Omega.{arith}
-use Rattle.bitcask.proofs.keydir.HalveLaws.{among-at}
 use Rattle.bitcask.proofs.recovery.SettleLaws.{waits_at, waits_before}
 use Rattle.bitcask.proofs.recovery.waiting.waits_gone.Goals as goal
-
-pub slot_at-requires : goal.slot_at-requires
-slot_at-requires c =
-    let a = c.args in
-    omega (arith, c.requires.1, among-at a.waiting a.held _ c.requires.0 c.in-Ok.is)
 
 pub returns-in-Ok : goal.returns-in-Ok
 returns-in-Ok c =
