@@ -22,8 +22,5 @@ returns-then-version-eq0 c =
       | then-version-eq0-via-else-version-eq0+then-version w ↦ open_last a.handle live c.if-handle.false w.if-version-eq0.false w.if-version.true
     ]
 
-pub slice_bounds-live-end : goal.slice_bounds-live-end
-slice_bounds-live-end c = let w = c.active_code-code.ensures in sym (length-take-le _ _ (omega (arith, w.whole, w.within)))
-
 pub returns : goal.returns
-returns c = let a = c.args in open_look (shown a.view.now) a.handle c.active_code-code.result _ c.if-handle.false c.if-version-eq0.false c.if-version.false c.active_code-code.ensures c.live.ensures
+returns c = let a = c.args in open_look (shown a.view.now) a.handle c.active_code-code.result _ c.if-handle.false c.if-version-eq0.false c.if-version.false c.active_code-code.ensures (rw c.as_slice.ensures at c.live.ensures)
