@@ -1,7 +1,4 @@
 -- `open`: read-only handles are; others by their version and then by the look-up of their key.
-use mathlib.Core.Path.{sym}
-use lib.Seq.{length-take-le}
-use native.Mathlib.Omega.{arith}
 use Rattle.bitcask.specs.engine.Views.{shown}
 use Rattle.bitcask.specs.engine.Spots.{has_row}
 use Rattle.mvcc.specs.request.Checks.{active_key}

@@ -1,10 +1,7 @@
 -- `stored` looks the snapshot up.
-use mathlib.Core.Path.{sym}
-use lib.Seq.{length-take-le}
 use Rattle.bitcask.specs.engine.Views.{shown}
 use Rattle.bitcask.proofs.engine.LookLaws.{found_stands}
 use Rattle.mvcc.proofs.as_of.PastLaws.{stored_none, stored_some}
-use native.Mathlib.Omega.{arith}
 use Rattle.mvcc.proofs.as_of.stored.Goals as goal
 
 pub value_at-requires : goal.value_at-requires

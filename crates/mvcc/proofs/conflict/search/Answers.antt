@@ -1,7 +1,4 @@
 -- `search`: where the versions of the key end, and the key of the row before.
-use mathlib.Core.Path.{sym}
-use lib.Seq.{length-take-le}
-use native.Mathlib.Omega.{arith}
 use Rattle.bitcask.specs.engine.Views.{shown}
 use Rattle.mvcc.proofs.conflict.SearchLaws.{end_within, search_none, search_stands, search_last}
 use Rattle.mvcc.proofs.conflict.search.Goals as goal

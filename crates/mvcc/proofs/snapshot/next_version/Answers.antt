@@ -1,10 +1,7 @@
 -- `next_version` looks its record up.
-use mathlib.Core.Path.{sym}
-use lib.Seq.{length-take-le}
 use Rattle.bitcask.specs.engine.Views.{shown}
 use Rattle.bitcask.proofs.engine.LookLaws.{found_stands}
 use Rattle.mvcc.proofs.snapshot.ActiveLaws.{next_missing, next_found}
-use native.Mathlib.Omega.{arith}
 use Rattle.mvcc.proofs.snapshot.next_version.Goals as goal
 
 pub value_at-requires : goal.value_at-requires

@@ -1,6 +1,5 @@
 -- `laid`: the two or three sets by the codes of their keys.
 use mathlib.Core.Path.{sym}
-use lib.Seq.{length-take-le}
 use Rattle.keycode.proofs.NumberLaws.{length-be}
 use Rattle.mvcc.specs.payload.Payloads.{version_bytes}
 use Rattle.mvcc.proofs.start.PlanLaws.{whole-laid, next_less, own_less, plan_two, plan_three}

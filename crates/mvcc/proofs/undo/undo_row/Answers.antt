@@ -1,7 +1,6 @@
 -- `undo_row` deletes the version that the key names, and then ends the row.
 use mathlib.Core.Path.{sym, ◌∙◌}
-use lib.Seq.{length-take-le}
-use Rattle.mvcc.proofs.undo.UndoStepLaws.{row_stands, named-within, undo_none, undo_other, undo_row_lem}
+use Rattle.mvcc.proofs.undo.UndoStepLaws.{row_stands, undo_none, undo_other, undo_row_lem}
 use Rattle.mvcc.proofs.undo.undo_row.Goals as goal
 
 pub returns-then-not-stands-clause-state : goal.returns-then-not-stands-clause-state

@@ -1,8 +1,5 @@
 -- `laid`: both keys by their codes, and the two entries.
-use mathlib.Core.Path.{sym}
 use mathlib.Core.List.{◌++◌}
-use lib.Seq.{length-take-le}
-use native.Mathlib.Omega.{arith}
 use Rattle.mvcc.proofs.write.WriteLaws.{plan_less, plan_appends}
 use Rattle.mvcc.proofs.write.laid.Goals as goal
 

@@ -1,7 +1,4 @@
 -- `highest`: the versions of the key by their codes.
-use mathlib.Core.Path.{sym}
-use lib.Seq.{length-take-le}
-use native.Mathlib.Omega.{arith}
 use Rattle.bitcask.specs.engine.Views.{shown}
 use Rattle.mvcc.proofs.conflict.SearchLaws.{end_within}
 use Rattle.mvcc.proofs.version.SeenLaws.{highest_by}

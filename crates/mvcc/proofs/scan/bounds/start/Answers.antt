@@ -1,7 +1,4 @@
 -- `start`: one search, for the later of the two starts.
-use mathlib.Core.Path.{sym}
-use native.Mathlib.Omega.{arith}
-use lib.Seq.{length-take-le}
 use Rattle.bitcask.specs.engine.Views.{shown}
 use Rattle.mvcc.proofs.scan.BoundLaws.{last_fits_lem, start_low, start_later, start_past}
 use Rattle.mvcc.proofs.scan.bounds.start.Goals as goal

@@ -1,7 +1,4 @@
 -- `step_begun`: the prefix's code and its end, and the step past the last given key.
-use mathlib.Core.Path.{sym}
-use native.Mathlib.Omega.{arith}
-use lib.Seq.{length-take-le}
 use Rattle.std.specs.Prelude.{is_some}
 use Rattle.bitcask.specs.engine.Views.{shown}
 use Rattle.mvcc.specs.scan.Bounds.{last_in}

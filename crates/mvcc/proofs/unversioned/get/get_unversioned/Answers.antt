@@ -1,8 +1,7 @@
 -- `get_unversioned`: 13, the key's length, and then the look-up of its code.
 use borrow.Author.Rules.{rules}
 use Rattle.std.specs.Prelude.{Err}
-use mathlib.Core.Path.{sym, ◌≡◌, ap}
-use lib.Seq.{length-take-le}
+use mathlib.Core.Path.{◌≡◌, ap}
 use Rattle.bitcask.proofs.engine.LookLaws.{found_stands}
 use Rattle.bitcask.specs.engine.Views.{marked}
 use Rattle.mvcc.proofs.unversioned.GetLaws.{unversioned-bad, unversioned-long, unversioned-at, unversioned_absent}

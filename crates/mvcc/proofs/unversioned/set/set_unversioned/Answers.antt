@@ -1,13 +1,11 @@
 -- `set_unversioned`: 13, the lengths, and one set by the key's code.
 use borrow.Author.Rules.{rules}
 use Rattle.std.specs.Prelude.{Err}
-use mathlib.Core.Path.{sym, ◌≡◌, ap}
-use lib.Seq.{length-take-le}
+use mathlib.Core.Path.{◌≡◌, ap}
 use Rattle.bitcask.specs.engine.Views.{marked}
 use Rattle.bitcask.proofs.engine.ViewLaws.{lent_back}
 use Rattle.mvcc.specs.unversioned.Promises.{SetsPlain}
 use Rattle.mvcc.proofs.unversioned.SetLaws.{plain_unfit, plain_held, plain_refused, plain_short, plain_tried}
-use native.Mathlib.Omega.{arith}
 use Rattle.mvcc.proofs.unversioned.set.set_unversioned.Goals as goal
 
 pub unversioned_code-code-requires : goal.unversioned_code-code-requires
