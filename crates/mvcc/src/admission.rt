@@ -30,9 +30,7 @@ pub(crate) fn open(view: &View, handle: Handle) -> bool
         return false;
     }
     let code = active_code(version);
-    let bytes = code.bytes;
-    let n = code.len;
-    live(view, &bytes[..n])
+    live(view, code.as_slice())
 }
 
 // 13 for the sizes and the handle, then 3.

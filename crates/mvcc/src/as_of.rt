@@ -22,9 +22,7 @@ fn stored(view: &View, version: u64) -> Result<Handle, Refusal>
 {
     let handle = Handle::fresh(version, true);
     let code = snapshot_code(version);
-    let bytes = code.bytes;
-    let n = code.len;
-    let Ok(p) = view.find(&bytes[..n]) else {
+    let Ok(p) = view.find(code.as_slice()) else {
         return Ok(handle);
     };
     read_set(view.value_at(p), handle)

@@ -32,13 +32,9 @@ pub(crate) fn search(view: &View, handle: Handle, key: &[u8]) -> Result<(), Refu
     ensures { result ≡ search_by handle (pairs (unseen_rows handle key.now (shown view.now))) }
 {
     let high = version_code(key, LAST_VERSION);
-    let high_bytes = high.bytes;
-    let high_len = high.len;
-    let end = view.past(Bound::Included, &high_bytes[..high_len]);
+    let end = view.past(Bound::Included, high.as_slice());
     let low = version_code(key, handle.lowest());
-    let low_bytes = low.bytes;
-    let low_len = low.len;
-    match view.row_before(end, Bound::Included, &low_bytes[..low_len]) {
+    match view.row_before(end, Bound::Included, low.as_slice()) {
         None => Ok(()),
         Some(p) => met(handle, view.key_at(p)),
     }

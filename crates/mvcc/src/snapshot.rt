@@ -36,9 +36,7 @@ pub(crate) fn next_version(view: &View) -> Option<u64>
     ensures { result ≡ next_in (shown view.now) }
 {
     let code = next_version_code();
-    let bytes = code.bytes;
-    let n = code.len;
-    let Ok(p) = view.find(&bytes[..n]) else {
+    let Ok(p) = view.find(code.as_slice()) else {
         return Some(1);
     };
     positive(read_version(view.value_at(p)))

@@ -28,34 +28,28 @@ fn laid(store: &mut Store, open: usize, version: u64, set: &[u8]) -> Result<Used
     ensures appends { AppendsTo store.old (plan_by «open» version set.now) result store.new }
 {
     let next = next_version_code();
-    let first = next.bytes;
-    let n = next.len;
     let own = active_code(version);
-    let last = own.bytes;
-    let m = own.len;
     let mut value = [0u8; VERSION_BYTES];
     put_version(version + 1, &mut value);
     if open == 0 {
         let none = &set[..0];
         return append_pair(
             store,
-            &first[..n],
+            next.as_slice(),
             &value[..VERSION_BYTES],
-            &last[..m],
+            own.as_slice(),
             none,
             none,
         );
     }
     let snapshot = snapshot_code(version);
-    let middle = snapshot.bytes;
-    let k = snapshot.len;
     append_three(
         store,
-        &first[..n],
+        next.as_slice(),
         &value[..VERSION_BYTES],
-        &middle[..k],
+        snapshot.as_slice(),
         set,
-        &last[..m],
+        own.as_slice(),
     )
 }
 

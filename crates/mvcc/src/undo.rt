@@ -88,9 +88,7 @@ fn undo_row(store: &mut Store, spot: Spot, version: u64)
         return;
     }
     let code = named_code(key, version);
-    let bytes = code.bytes;
-    let n = code.len;
-    del_key(store, &bytes[..n]);
+    del_key(store, code.as_slice());
     end_row(store, spot);
 }
 

@@ -54,16 +54,12 @@ fn laid(
     ensures appends { AppendsTo store.old (plan version key.now (head.now ++ body.now)) result store.new }
 {
     let write = write_code(version, key);
-    let write_bytes = write.bytes;
-    let write_len = write.len;
     let stored = version_code(key, version);
-    let stored_bytes = stored.bytes;
-    let stored_len = stored.len;
     append_pair(
         store,
-        &write_bytes[..write_len],
+        write.as_slice(),
         &key[..0],
-        &stored_bytes[..stored_len],
+        stored.as_slice(),
         head,
         body,
     )

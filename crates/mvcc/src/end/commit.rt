@@ -20,9 +20,10 @@ pub fn commit(
     let Some(closing) = to_close(log, used, table, handle)? else {
         return Ok(used);
     };
-    let code = closing.code;
-    let bytes = code.bytes;
-    let n = code.len;
     let mark = closing.mark;
-    clear(&mut Store { log, table, mark }, closing.span, &bytes[..n])
+    clear(
+        &mut Store { log, table, mark },
+        closing.span,
+        closing.code.as_slice(),
+    )
 }

@@ -19,15 +19,12 @@ pub fn rollback(
     let Some(closing) = to_close(log, used, table, handle)? else {
         return Ok(used);
     };
-    let code = closing.code;
-    let bytes = code.bytes;
-    let n = code.len;
     undo(
         log,
         table,
         closing.mark,
         closing.span,
         handle.version,
-        &bytes[..n],
+        closing.code.as_slice(),
     )
 }

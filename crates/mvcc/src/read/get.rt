@@ -21,13 +21,9 @@ fn highest(view: &View, handle: Handle, key: &[u8]) -> Seen
     ensures { result ≡ last_rows handle (version_rows key.now handle.version (shown view.now)) }
 {
     let last = version_code(key, handle.version);
-    let high = last.bytes;
-    let b = last.len;
-    let end = view.past(Bound::Included, &high[..b]);
+    let end = view.past(Bound::Included, last.as_slice());
     let first = version_code(key, 0);
-    let low = first.bytes;
-    let a = first.len;
-    seek(view, end, &low[..a], handle)
+    seek(view, end, first.as_slice(), handle)
 }
 
 fn located(seen: Seen) -> Result<Part, Refusal>

@@ -67,12 +67,10 @@ fn start(view: &View, lower: Bound, low: &[u8], past: Option<&[u8]>) -> Spot
         return view.first(lower, low);
     };
     let code = low_code(Bound::Excluded, last);
-    let bytes = code.bytes;
-    let n = code.len;
-    if compare(low, &bytes[..n]).is_gt() {
+    if compare(low, code.as_slice()).is_gt() {
         return view.first(lower, low);
     }
-    view.first(Bound::Excluded, &bytes[..n])
+    view.first(Bound::Excluded, code.as_slice())
 }
 
 // The step over the rows within two bounds of engine keys and past the last given key.
@@ -108,18 +106,14 @@ pub(crate) fn step_between(
         ≡ step_rows handle view.now.log.now (scan_rows lower low.now upper high.now (is_some past.entry) (last_in past.entry) (shown view.now)) }
 {
     let a = low_code(lower, low);
-    let from = a.bytes;
-    let n = a.len;
     let b = high_code(upper, high);
-    let to = b.bytes;
-    let k = b.len;
     step_past(
         view,
         handle,
         low_kind(lower),
-        &from[..n],
+        a.as_slice(),
         high_kind(upper),
-        &to[..k],
+        b.as_slice(),
         past,
     )
 }

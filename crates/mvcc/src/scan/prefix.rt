@@ -61,20 +61,14 @@ fn step_begun(
     ensures { result ≡ step_rows handle view.now.log.now (prefix_rows prefix.now (is_some past.entry) (last_in past.entry) (shown view.now)) }
 {
     let code = prefix_code(prefix);
-    let low = code.bytes;
-    let n = code.len;
-    let upper = upper_of(&low[..n]);
-    let bound = upper.bound;
-    let end = upper.code;
-    let high = end.bytes;
-    let k = end.len;
+    let upper = upper_of(code.as_slice());
     step_past(
         view,
         handle,
         Bound::Included,
-        &low[..n],
-        bound,
-        &high[..k],
+        code.as_slice(),
+        upper.bound,
+        upper.code.as_slice(),
         past,
     )
 }

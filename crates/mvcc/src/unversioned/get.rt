@@ -15,9 +15,7 @@ pub fn get_unversioned(log: &[u8], used: Used, table: &[u32], key: &[u8]) -> Res
         return Err(Refusal::KeyTooLong);
     }
     let code = unversioned_code(key);
-    let bytes = code.bytes;
-    let len = code.len;
-    let Ok(p) = view.find(&bytes[..len]) else {
+    let Ok(p) = view.find(code.as_slice()) else {
         return Err(Refusal::Absent);
     };
     Ok(view.value_place(p))

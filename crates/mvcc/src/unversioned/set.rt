@@ -21,8 +21,6 @@ pub fn set_unversioned(
     let mark = view.mark;
     sized(key.len(), value.len())?;
     let code = unversioned_code(key);
-    let bytes = code.bytes;
-    let len = code.len;
     let mut store = Store { log, table, mark };
-    append_one(&mut store, &bytes[..len], value)
+    append_one(&mut store, code.as_slice(), value)
 }

@@ -1,7 +1,4 @@
 -- `open`: read-only handles are; others by their version and then by the look-up of their key.
-use mathlib.Core.Path.{sym}
-use lib.Seq.{length-take-le}
-use native.Mathlib.Omega.{arith}
 use Rattle.bitcask.specs.engine.Views.{shown}
 use Rattle.bitcask.specs.engine.Spots.{has_row}
 use Rattle.mvcc.specs.request.Checks.{active_key}
@@ -22,8 +19,5 @@ returns-then-version-eq0 c =
       | then-version-eq0-via-else-version-eq0+then-version w ↦ open_last a.handle live c.if-handle.false w.if-version-eq0.false w.if-version.true
     ]
 
-pub slice_bounds-live-end : goal.slice_bounds-live-end
-slice_bounds-live-end c = let w = c.active_code-code.ensures in sym (length-take-le _ _ (omega (arith, w.whole, w.within)))
-
 pub returns : goal.returns
-returns c = let a = c.args in open_look (shown a.view.now) a.handle c.active_code-code.result _ c.if-handle.false c.if-version-eq0.false c.if-version.false c.active_code-code.ensures c.live.ensures
+returns c = let a = c.args in open_look (shown a.view.now) a.handle c.active_code-code.result _ c.if-handle.false c.if-version-eq0.false c.if-version.false c.active_code-code.ensures (rw c.as_slice.ensures at c.live.ensures)

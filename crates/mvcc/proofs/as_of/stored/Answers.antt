@@ -1,23 +1,14 @@
 -- `stored` looks the snapshot up.
-use mathlib.Core.Path.{sym}
-use lib.Seq.{length-take-le}
 use Rattle.bitcask.specs.engine.Views.{shown}
 use Rattle.bitcask.proofs.engine.LookLaws.{found_stands}
 use Rattle.mvcc.proofs.as_of.PastLaws.{stored_none, stored_some}
-use native.Mathlib.Omega.{arith}
 use Rattle.mvcc.proofs.as_of.stored.Goals as goal
-
-pub slice_bounds-bytes-end : goal.slice_bounds-bytes-end
-slice_bounds-bytes-end c = let w = c.snapshot_code-code.ensures in omega (arith, w.whole, w.within)
-
-pub slice_bounds-find-end : goal.slice_bounds-find-end
-slice_bounds-find-end c = let w = c.snapshot_code-code.ensures in sym (length-take-le _ _ (omega (arith, w.whole, w.within)))
 
 pub value_at-requires : goal.value_at-requires
 value_at-requires c = (found_stands _ _ c.find.ensures _ c.in-Ok.is)
 
 pub returns-in_default : goal.returns-in_default
-returns-in_default c = let a = c.args in stored_none (shown a.view.now) a.version c.snapshot_code-code.ensures _ c.find.ensures c.fresh-handle.ensures _ c.in_default.is
+returns-in_default c = let a = c.args in stored_none (shown a.view.now) a.version c.snapshot_code-code.ensures _ (rw c.as_slice.ensures at c.find.ensures) c.fresh-handle.ensures _ c.in_default.is
 
 pub returns : goal.returns
-returns c = let a = c.args in stored_some (shown a.view.now) a.version c.snapshot_code-code.ensures _ c.find.ensures c.fresh-handle.ensures _ c.in-Ok.is c.value_at.ensures c.read_set.ensures
+returns c = let a = c.args in stored_some (shown a.view.now) a.version c.snapshot_code-code.ensures _ (rw c.as_slice.ensures at c.find.ensures) c.fresh-handle.ensures _ c.in-Ok.is c.value_at.ensures c.read_set.ensures

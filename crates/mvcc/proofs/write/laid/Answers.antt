@@ -1,19 +1,10 @@
 -- `laid`: both keys by their codes, and the two entries.
-use mathlib.Core.Path.{sym}
 use mathlib.Core.List.{◌++◌}
-use lib.Seq.{length-take-le}
-use native.Mathlib.Omega.{arith}
 use Rattle.mvcc.proofs.write.WriteLaws.{plan_less, plan_appends}
 use Rattle.mvcc.proofs.write.laid.Goals as goal
 
-pub slice_bounds-append_pair-end : goal.slice_bounds-append_pair-end
-slice_bounds-append_pair-end c = let w = c.write_code-write.ensures in sym (length-take-le _ _ (omega (arith, w.whole, w.within)))
-
-pub slice_bounds-append_pair-end-3 : goal.slice_bounds-append_pair-end-3
-slice_bounds-append_pair-end-3 c = let w = c.version_code-stored.ensures in sym (length-take-le _ _ (omega (arith, w.whole, w.within)))
-
 pub append_pair-requires : goal.append_pair-requires
-append_pair-requires c = let p = c.requires in let a = c.args in (p.0, plan_less a.version a.key.now c.write_code-write.ensures c.version_code-stored.ensures, p.2, p.3)
+append_pair-requires c = let p = c.requires in let a = c.args in rw (c.as_slice.ensures, c.as_slice-2.ensures) (p.0, plan_less a.version a.key.now c.write_code-write.ensures c.version_code-stored.ensures, p.2, p.3)
 
 pub returns-clause-appends : goal.returns-clause-appends
-returns-clause-appends c = let a = c.args in plan_appends a.store.now.log.now a.store.now.table.now a.store.now.mark a.version a.key.now (a.head.now ++ a.body.now) _ _ _ _ _ c.write_code-write.ensures c.version_code-stored.ensures c.append_pair.ensures.appends
+returns-clause-appends c = let a = c.args in plan_appends a.store.now.log.now a.store.now.table.now a.store.now.mark a.version a.key.now (a.head.now ++ a.body.now) _ _ _ _ _ c.write_code-write.ensures c.version_code-stored.ensures (rw (c.as_slice.ensures, c.as_slice-2.ensures) at c.append_pair.ensures.appends)

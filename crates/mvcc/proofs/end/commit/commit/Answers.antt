@@ -39,5 +39,5 @@ returns c =
     let a = c.args in
     let w = rw c.in-Some.is at c.in_ok-closing.ensures in
     lent_back (Commits a.log.now a.used.len a.table.now a.handle c.clear.result)
-    (commits-so (finish_clears a.log.now a.used a.table.now a.handle w.admits _ refl w.writes (λ i. (c.slice_known-1.given i).fits) _ w.records _ w.own c.clear.ensures.clears))
+    (commits-so (finish_clears a.log.now a.used a.table.now a.handle w.admits _ refl w.writes (λ i. (c.slice_known-1.given i).fits) _ w.records _ w.own (rw c.as_slice.ensures at c.clear.ensures.clears)))
     (search rules) (search rules)

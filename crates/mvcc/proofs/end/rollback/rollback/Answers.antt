@@ -30,4 +30,4 @@ pub returns : goal.returns
 returns c =
     let a = c.args in
     let w = rw c.in-Some.is at c.in_ok-closing.ensures in
-    rolls_so (finish_undoes a.log.now a.used a.table.now a.handle w.admits _ refl w.writes (λ i. (c.slice_known-1.given i).fits) _ w.records _ w.own c.undo.ensures)
+    rolls_so (finish_undoes a.log.now a.used a.table.now a.handle w.admits _ refl w.writes (λ i. (c.slice_known-1.given i).fits) _ w.records _ w.own (rw c.as_slice.ensures at c.undo.ensures))

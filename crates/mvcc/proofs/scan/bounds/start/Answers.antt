@@ -1,7 +1,4 @@
 -- `start`: one search, for the later of the two starts.
-use mathlib.Core.Path.{sym}
-use native.Mathlib.Omega.{arith}
-use lib.Seq.{length-take-le}
 use Rattle.bitcask.specs.engine.Views.{shown}
 use Rattle.mvcc.proofs.scan.BoundLaws.{last_fits_lem, start_low, start_later, start_past}
 use Rattle.mvcc.proofs.scan.bounds.start.Goals as goal
@@ -12,14 +9,8 @@ returns-in_default c = let a = c.args in start_low a.lower a.low.now (shown a.vi
 pub low_code-code-requires : goal.low_code-code-requires
 low_code-code-requires c = last_fits_lem _ c.in-Some.is c.requires
 
-pub slice_bounds-compare-end : goal.slice_bounds-compare-end
-slice_bounds-compare-end c = let w = c.low_code-code.ensures in sym (length-take-le _ _ (omega (arith, w.whole, w.within)))
-
 pub returns-then-is_gt : goal.returns-then-is_gt
-returns-then-is_gt c = let a = c.args in start_later a.lower a.low.now (shown a.view.now) _ c.in-Some.is c.low_code-code.ensures c.compare.ensures c.is_gt.ensures c.if-is_gt.true c.first-then-is_gt.ensures
-
-pub slice_bounds-first-end : goal.slice_bounds-first-end
-slice_bounds-first-end c = let w = c.low_code-code.ensures in sym (length-take-le _ _ (omega (arith, w.whole, w.within)))
+returns-then-is_gt c = let a = c.args in start_later a.lower a.low.now (shown a.view.now) _ c.in-Some.is c.low_code-code.ensures (rw c.as_slice.ensures at c.compare.ensures) c.is_gt.ensures c.if-is_gt.true c.first-then-is_gt.ensures
 
 pub returns : goal.returns
-returns c = let a = c.args in start_past a.lower a.low.now (shown a.view.now) _ c.in-Some.is c.low_code-code.ensures c.compare.ensures c.is_gt.ensures c.if-is_gt.false c.first-2.ensures
+returns c = let a = c.args in start_past a.lower a.low.now (shown a.view.now) _ c.in-Some.is c.low_code-code.ensures (rw c.as_slice.ensures at c.compare.ensures) c.is_gt.ensures c.if-is_gt.false (rw c.as_slice-2.ensures at c.first-2.ensures)

@@ -1,7 +1,4 @@
 -- `step_between`: the codes of the two bounds, and the step past the last given key.
-use mathlib.Core.Path.{sym}
-use native.Mathlib.Omega.{arith}
-use lib.Seq.{length-take-le}
 use Rattle.std.specs.Prelude.{is_some}
 use Rattle.bitcask.specs.engine.Views.{shown}
 use Rattle.mvcc.specs.scan.Bounds.{last_in}
@@ -14,14 +11,8 @@ low_code-a-requires c = let a = c.args in keys_low a.lower a.low.now a.upper a.h
 pub high_code-b-requires : goal.high_code-b-requires
 high_code-b-requires c = let a = c.args in keys_high a.lower a.low.now a.upper a.high.now (is_some a.past) (last_in a.past) c.requires
 
-pub slice_bounds-step_past-end : goal.slice_bounds-step_past-end
-slice_bounds-step_past-end c = let w = c.low_code-a.ensures in sym (length-take-le _ _ (omega (arith, w.whole, w.within)))
-
-pub slice_bounds-step_past-end-2 : goal.slice_bounds-step_past-end-2
-slice_bounds-step_past-end-2 c = let w = c.high_code-b.ensures in sym (length-take-le _ _ (omega (arith, w.whole, w.within)))
-
 pub step_past-requires : goal.step_past-requires
 step_past-requires c = let a = c.args in (keys_last a.lower a.low.now a.upper a.high.now (is_some a.past) (last_in a.past) c.requires)
 
 pub returns : goal.returns
-returns c = let a = c.args in between_by a.handle a.view.now.log.now (shown a.view.now) (is_some a.past) (last_in a.past) a.lower a.low.now a.upper a.high.now c.low_code-a.ensures c.high_code-b.ensures c.low_kind.ensures c.high_kind.ensures c.step_past.ensures
+returns c = let a = c.args in between_by a.handle a.view.now.log.now (shown a.view.now) (is_some a.past) (last_in a.past) a.lower a.low.now a.upper a.high.now c.low_code-a.ensures c.high_code-b.ensures c.low_kind.ensures c.high_kind.ensures (rw (c.as_slice.ensures, c.as_slice-2.ensures) at c.step_past.ensures)
