@@ -25,7 +25,8 @@ fn upto(log: &[u8], table: &[u32], count: usize, key: &[u8]) -> usize
     }
 }
 
-// The number of the first key that a lower bound admits.
+// The number of the first key that a lower bound admits. This and `upto_bound` stay two: each arm answers another number of the other's,
+// and one function over both would take a closure for each arm.
 pub(crate) fn from_bound(log: &[u8], table: &[u32], count: usize, bound: Bound, key: &[u8]) -> usize
     requires { slot_words * count ≤ length table.now }
     ensures { (result ≡ from_bound bound log.now key.now (slots_of count table.now)) × (result ≤ count) }

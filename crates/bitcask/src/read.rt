@@ -63,7 +63,8 @@ fn last_bound(given: bool) -> Bound
 }
 
 // The first pair within the bounds and past the last given key. A slice beside a bound that is none, or a last key that is not given, is
-// not looked at.
+// not looked at. These stand beside their flags, and not in an Option or a Bound, since `Steps` and the theorems over runs speak of any
+// slice beside any flag, and a type would shut some of them out.
 pub fn scan_step(
     log: &[u8],
     used: Used,

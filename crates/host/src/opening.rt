@@ -26,7 +26,7 @@ pub struct Next {
     pub count: usize,
 }
 
-// The slot of an entry at an offset.
+// The slot of an entry at an offset: what bitcask's own `Slot::of_entry` makes, which no other crate may ask, since it asks for room.
 fn slot_for(at: usize, klen: usize, vlen: usize) -> Slot
     requires { at + 8 + klen + vlen ≤ max_log }
     ensures { result ≡ record { place = at + 1; klen = klen; vlen = vlen } }

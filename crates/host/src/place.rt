@@ -16,7 +16,8 @@ fn order_at<E: Element>(log: &[u8], table: &[E], count: usize, i: usize, key: &[
     compare(key_of(log, E::slot_at(table, i)), key)
 }
 
-// The place of a key among the first `count` slots, by halving.
+// The place of a key among the first `count` slots, by halving. By hand, as bitcask's is: the contract says for all tables which it is.
+// bitcask's stands beside it, over words: this one is over any elements, and was not measured against the words' own.
 pub(crate) fn find<E: Element>(
     log: &[u8],
     table: &[E],

@@ -12,6 +12,8 @@ use crate::scan::checks::keys_fit;
 use bitcask::{Bound, KeyValue, Used};
 use keycode::Refusal;
 
+// The bounds' keys and the last key stand beside their flags, and not in a Bound or an Option: `Scans` and the theorems over runs speak of
+// any slice beside any flag.
 pub fn scan_step(
     log: &[u8],
     used: Used,

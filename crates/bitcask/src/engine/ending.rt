@@ -34,7 +34,8 @@ fn tomb_at(log: &mut [u8], at: usize, s: Slot) -> usize
     at + 8 + len
 }
 
-// The tombstones of the rows from number `from` on, to `to`; gives the end behind them.
+// The tombstones of the rows from number `from` on, to `to`; gives the end behind them. It is no method of the store: it writes the log
+// and reads the table, and a store lends both or none.
 fn lay_tombs(log: &mut [u8], table: &[u32], mark: Mark, from: usize, to: usize) -> usize
     requires { (Held log.old table.now mark) × (to ≤ mark.count) }
     ensures { record { log = log.new; used = result }

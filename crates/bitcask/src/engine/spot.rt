@@ -33,7 +33,7 @@ impl View<'_> {
         }
     }
 
-    // The place past the last row that an upper bound admits.
+    // The place past the last row that an upper bound admits. It is `first` over another rank: the two numbers that they wrap stay two.
     pub fn past(&self, bound: Bound, key: &[u8]) -> Spot
         ensures { rank result (shown self.now) ≡ upto_rank bound key.now (shown self.now) }
     {

@@ -149,7 +149,7 @@ pub fn key_of(log: &[u8], s: Slot) -> &[u8]
     clip(log, s.key_at(), s.klen as usize)
 }
 
-// A slot's value, as far as the log goes.
+// A slot's value, as far as the log goes: one line beside that of the key.
 pub(crate) fn value_of(log: &[u8], s: Slot) -> &[u8]
     ensures { result.now ≡ value_of log.now s }
 {

@@ -14,6 +14,8 @@ use keycode::code::{Code, version_code};
 use keycode::limits::KEY_BYTES;
 use keycode::{Refusal, compare};
 
+// What a bound of user keys is as a bound of Version keys, its kind and its key, for the lower and for the upper end: where there is none
+// these differ in every answer.
 fn low_kind(lower: Bound) -> Bound
     ensures { result ≡ low_kind lower }
 {

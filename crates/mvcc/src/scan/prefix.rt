@@ -73,6 +73,7 @@ fn step_begun(
     )
 }
 
+// The last key stands beside its flag, as in `scan_step`: `ScansPrefix` speaks of any slice beside any flag.
 pub fn scan_prefix_step(
     log: &[u8],
     used: Used,
