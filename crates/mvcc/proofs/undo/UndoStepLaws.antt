@@ -101,9 +101,6 @@ none-user : (o : Option (List ℕ)) → is_user o ≡ false → o ≡ None
 none-user None e = refl
 none-user (Some u) e = nope (cc)
 
-pub named-within : (b : List ℕ) (v : ℕ) (r : Code) → is_user (user_in b) ≡ true → Names b v r → r.len ≤ length r.bytes
-named-within b v r e w = let q = user_some (user_in b) e in let c = w.names q.0 q.1 in omega (arith, c.whole, c.within)
-
 -- the store behind a key that was deleted
 pub after-key : {log t log' t' : List ℕ} {m mid : Mark} (key : List ℕ) → Held log t m → store_of log' t' mid ≡ del_where (store_of log t m) key → Held log' t' mid
 after-key {log} {t} {m = m} key h e = keeps_held h (subst (Keeps (store_of log t m)) (sym e) (del_where_keeps key h))
