@@ -10,7 +10,7 @@ pub enum Bound {
 }
 
 // The places of a key and its value in the log.
-#[derive(Clone, Copy)]
+#[derive(Clone, Copy, Debug, PartialEq, Eq)]
 pub struct KeyValue {
     pub key: Part,
     pub value: Part,

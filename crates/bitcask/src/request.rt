@@ -1,4 +1,6 @@
-// The used length that goes in and comes back by value, the answer of a call that changes it, and the sizes that a request may have.
+// The used length that goes in and comes back by value, and the sizes that a request may have. A public call takes the log, the used
+// length and the table one by one, and not as one value: a caller lends them for that call alone, the log now to read and now to write to,
+// and the promises speak of each by itself.
 ghost use Rattle.std.specs.Prelude.{◌≡◌};
 ghost use Rattle.bitcask.specs.recovery.Agree.{fit};
 

@@ -8,7 +8,7 @@ use keycode::Refusal;
 
 // The used length then, and the handle. An answer with the handle beside it, and not a handle within the answer: a refusal comes with the
 // blank handle too, as the promises of these calls say by `blank`.
-#[derive(Clone, Copy)]
+#[derive(Clone, Copy, Debug, PartialEq, Eq)]
 pub struct Begun {
     pub answer: Result<Used, Refusal>,
     pub handle: Handle,

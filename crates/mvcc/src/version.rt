@@ -15,7 +15,7 @@ use bitcask::engine::{Spot, View};
 use keycode::{Key, Part, decode};
 
 // What a record says. Hidden goes on to the record below; the others decide. Four cases of their own: none of them is an error of a call.
-#[derive(Clone, Copy)]
+#[derive(Clone, Copy, Debug, PartialEq, Eq)]
 pub enum Seen {
     Hidden,
     Gone,
@@ -24,14 +24,14 @@ pub enum Seen {
 }
 
 // What a Version key says: where the escaped bytes of its user key stand in it, and its version.
-#[derive(Clone, Copy)]
+#[derive(Clone, Copy, Debug, PartialEq, Eq)]
 pub struct Label {
     pub string: Part,
     pub version: u64,
 }
 
 // A row of a Version key: the place of its user key's escaped bytes, and what it says.
-#[derive(Clone, Copy)]
+#[derive(Clone, Copy, Debug, PartialEq, Eq)]
 pub struct Record {
     pub key: Part,
     pub seen: Seen,

@@ -13,7 +13,7 @@ use keycode::{Part, Refusal, compare};
 
 // Before the first group; within one, with what it says so far and the place of the key that said it; a pair and, behind it, a key
 // that does not decode; and past the end of the step.
-#[derive(Clone, Copy)]
+#[derive(Clone, Copy, Debug, PartialEq, Eq)]
 pub enum Walk {
     Start,
     Within(Record),

@@ -6,7 +6,7 @@ use crate::format::layout::RECORD;
 use bitcask::Used;
 
 // The used length, whether the second of the two lent buffers is the log, and how many bytes of answers were laid.
-#[derive(Clone, Copy)]
+#[derive(Clone, Copy, Debug, PartialEq, Eq)]
 pub struct Turn {
     pub used: Used,
     pub other: bool,

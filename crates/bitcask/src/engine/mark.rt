@@ -9,7 +9,7 @@ use crate::request::{Used, fits};
 use keycode::Refusal;
 
 // A store that was entered: the used length with all that it carries, and how many rows there are.
-#[derive(Clone, Copy)]
+#[derive(Clone, Copy, Debug, PartialEq, Eq)]
 pub struct Mark {
     pub used: Used,
     pub count: usize,

@@ -15,7 +15,7 @@ use keycode::limits::KEY_BYTES;
 use keycode::prefix_end;
 
 // The rows from the first spot on, up to the second, which is not one of them. There are none where they meet.
-#[derive(Clone, Copy)]
+#[derive(Clone, Copy, Debug, PartialEq, Eq)]
 pub struct Span {
     pub from: Spot,
     pub to: Spot,

@@ -8,7 +8,7 @@ use crate::engine::view::View;
 use crate::keydir::find as find_slot;
 use crate::rank::{from_bound, upto_bound};
 
-#[derive(Clone, Copy)]
+#[derive(Clone, Copy, Debug, PartialEq, Eq)]
 pub struct Spot {
     pub(crate) number: usize,
 }

@@ -5,7 +5,7 @@ ghost use Rattle.bitcask.specs.engine.Marks.{Held};
 
 use crate::engine::mark::Mark;
 
-#[derive(Clone, Copy)]
+#[derive(Clone, Copy, Debug, PartialEq, Eq)]
 pub struct View<'a> {
     pub log: &'a [u8],
     pub table: &'a [u32],

@@ -53,7 +53,7 @@ impl Slot {
 }
 
 // The first `count` slots of a table that is only read.
-#[derive(Clone, Copy)]
+#[derive(Clone, Copy, Debug, PartialEq, Eq)]
 pub(crate) struct Slots<'a> {
     pub table: &'a [u32],
     pub count: usize,
