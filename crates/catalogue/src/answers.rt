@@ -15,20 +15,11 @@ pub(crate) struct Spelt(pub Field);
 #[derive(Clone, Copy)]
 struct Place(Part);
 
-fn number_of(denial: Denial) -> u8 {
-    match denial {
-        Denial::BadKey => 12,
-        Denial::BadRequest => 13,
-        Denial::BadFlag => 14,
-        Denial::BadText => 15,
-    }
-}
-
 impl fmt::Display for Outcome {
     fn fmt<W: fmt::Write>(&self, f: &mut fmt::Formatter<W>) -> fmt::Result {
         match self.0 {
             Ok(count) => write!(f, ": 0 {count:04x}"),
-            Err(denial) => write!(f, ": {} 0000", number_of(denial)),
+            Err(denial) => write!(f, ": {} 0000", denial as u8),
         }
     }
 }

@@ -12,8 +12,8 @@ pub enum Kind {
 // Why a row is refused; `denial_number` of specs/Denials.antt gives each its number. 14 and 15 are numbers of the two calls on rows alone.
 #[derive(Clone, Copy, Debug, PartialEq, Eq)]
 pub enum Denial {
-    BadKey,
-    BadRequest,
-    BadFlag,
-    BadText,
+    BadKey = 12,
+    BadRequest = 13,
+    BadFlag = 14,
+    BadText = 15,
 }
