@@ -7,10 +7,7 @@ use keycode::{Part, Refusal};
 use std::alloc::{AllocError, Global};
 
 fn same_answer(answer: Result<Used, Refusal>, reading: &Reading) -> bool {
-    match answer {
-        Ok(used) => reading.cut == Some(used.len),
-        Err(refusal) => reading.cut.is_none() && matches!(refusal, Refusal::TableFull),
-    }
+    answer.map(|used| used.len) == reading.cut.ok_or(Refusal::TableFull)
 }
 
 // A slot's first word is 1 past the entry's offset, and 0 where the slot is free.
@@ -29,35 +26,19 @@ fn same_slot(slot: &[u32], live: Option<&Live>) -> bool {
 // Slot i is that of the live key with i live keys below it.
 fn same_table(table: &[u32], reading: &Reading) -> bool {
     let mut live = reading.live.values();
-    for slot in table.chunks(3) {
-        if !same_slot(slot, live.next()) {
-            return false;
-        }
-    }
-    true
-}
-
-// By hand: a `Part` has no `==`.
-fn same_place(a: Part, b: Part) -> bool {
-    a.at == b.at && a.len == b.len
+    table.chunks(3).all(|slot| same_slot(slot, live.next()))
 }
 
 fn same_get(answer: Result<Part, Refusal>, live: Option<&Live>) -> bool {
-    match (answer, live) {
-        (Ok(value), Some(live)) => same_place(value, live.value),
-        (Err(refusal), None) => matches!(refusal, Refusal::Absent),
-        _ => false,
-    }
+    answer == live.map(|live| live.value).ok_or(Refusal::Absent)
 }
 
 fn same_step(answer: Result<KeyValue, Refusal>, live: Option<&Live>) -> bool {
-    match (answer, live) {
-        (Ok(pair), Some(live)) => {
-            same_place(pair.key, live.key) && same_place(pair.value, live.value)
-        }
-        (Err(refusal), None) => matches!(refusal, Refusal::Absent),
-        _ => false,
-    }
+    let pair = live.map(|live| KeyValue {
+        key: live.key,
+        value: live.value,
+    });
+    answer == pair.ok_or(Refusal::Absent)
 }
 
 // An opened log, and what it is to answer.
