@@ -6,6 +6,8 @@ import os
 import re
 
 NAMED = re.compile(r"^\s*(?:pub\s+)?use\s+Rattle\.([a-z_]+)\.(specs|proofs)\.([A-Za-z0-9_.]+)", re.M)
+# a fact that a struct carries: what makes one is gone, and its words may stand in a file that no theorem reaches
+GHOST = re.compile(r"\s+(?:pub\s+)?ghost\s+\w+:\s*\{.*\},$")
 ITEM = re.compile(r"(?:pub(?:\([a-z]+\))?\s+)?(?:unsafe\s+)?(?:extern\s+\"C\"\s+)?(fn|impl|ghost use|use)\b")
 
 
@@ -50,6 +52,11 @@ def types_used(item):
     return f"{head} {path}::{{{', '.join(kept)}}};" if kept else ""
 
 
+def plain(attribute):
+    """A derive without what only functions ask for: comparing and printing."""
+    return re.sub(r"\((.*)\)", lambda m: "(" + ", ".join(d for d in m.group(1).split(", ") if d in ("Clone", "Copy", "Drop")) + ")", attribute) if attribute.startswith("#[derive(") else attribute
+
+
 def types_alone(text):
     """A source file without its functions, and without what only they use."""
     out, attributes, lines, i = [], [], text.split("\n"), 0
@@ -57,7 +64,9 @@ def types_alone(text):
         line = lines[i]
         i += 1
         if line.startswith("#["):
-            attributes.append(line)
+            attributes.append(plain(line))
+            continue
+        if GHOST.match(line):
             continue
         item = ITEM.match(line)
         if not item:
