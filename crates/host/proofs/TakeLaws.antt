@@ -71,9 +71,6 @@ module _ (log : List ℕ) (used : ℕ) (t : List ℕ) (n at : ℕ) {e : Option L
     pub del-within : (k : ℕ) → e ≡ (Some (Del k)) → at + 8 + k ≤ used
     del-within k q = let w = entry-within log used at (sym er ∙ q) h in omega arith
 
-  pub entry-over : e ≡ None → TakesEntry log used t n at (Ok None) t
-  entry-over q = let p : entry_at log used at ≡ None = sym er ∙ q in record { answer = rw p; words = rw p }
-
   pub entry_set : (k v : ℕ) {s : Slot} {r : Result Next Refusal} {t' : List ℕ} → e ≡ (Some (Set k v)) → s ≡ record { place = at + 1; klen = k; vlen = v }
       → Takes log t n (record { slot = s; gone = false }) (at + 8 + k + v) r t' → TakesEntry log used t n at (went_on r) t'
   entry_set k v q es w =
