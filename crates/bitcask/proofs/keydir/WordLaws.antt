@@ -7,7 +7,7 @@ use native.Mathlib.Omega.{arith}
 use native.Mathlib.Nat.{add_assoc, zero-add, suc-add}
 use native.Mathlib.Numerals.{add-one}
 use borrow.Author.Fill.{fill_more}
-use lib.ListN.{length, take, drop, get_or, set, replicate, length-append, length-take, length-drop, length-replicate, get_or-append, drop_of_length-le}
+use lib.ListN.{length, take, drop, get_or, set, replicate, length-append, length-take, length-drop, length-replicate, get_or-append, drop_of_length-le, take-append-drop}
 use lib.Seq.{drop-drop, take-add, take_all, take-nil, drop-nil, slice, slice_empty, slice-cons, take-suc, length-take-le, get_or-take, get_or-drop, get_or-append-add, drop-append-le, length-slice, take-append-le, take-take, drop_at}
 use Rattle.std.specs.List.{copy_within}
 use Rattle.keycode.specs.Buffer.{put}
@@ -47,6 +47,14 @@ module _ (l : List ℕ) where
   pub copy_none : (t g : ℕ) → l ≡ copied l t t g
   unfolding copied
   copy_none t g = put-none l g ∙ ap (put l g) (sym (slice_empty t l))
+
+  -- where the words stand already
+  pub copy_self : (f t g : ℕ) → g ≡ f → f ≤ t → t ≤ length l → l ≡ copied l f t g
+  unfolding copied put
+  copy_self f t g e h k =
+      let n : f + length (slice f t l) ≡ t = omega (arith, length-slice f t l k) in
+      let q : take f l ++ slice f t l ≡ take t l = ap (λ (x : List ℕ). x ++ slice f t l) (sym (take-take f t l h)) ∙ take-append-drop f (take t l) in
+      sym (rw (e, n, q) (take-append-drop t l))
 
   -- the library's words for it
   pub within_is : (f t g : ℕ) {x : List ℕ} → f ≤ t → t ≤ length l → x ≡ copy_within l f t g → x ≡ copied l f t g

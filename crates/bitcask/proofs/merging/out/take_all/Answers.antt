@@ -1,8 +1,7 @@
 use native.Mathlib.Omega.{arith}
-use Prim.Native.Nat.{◌*◌}
 use mathlib.Core.Path.{◌∙◌}
-use Rattle.bitcask.specs.keydir.Slots.{slot_words, slots_of}
-use Rattle.bitcask.proofs.keydir.WordLaws.{within_is, cleared}
+use Rattle.bitcask.specs.keydir.Slots.{slots_of}
+use Rattle.bitcask.proofs.keydir.WordLaws.{cleared}
 use Rattle.bitcask.proofs.keydir.SlotLaws.{slot_at_is, slots_length}
 use Rattle.bitcask.proofs.merging.OutLaws.{taking_start, taking_turn, taking_end}
 use Rattle.bitcask.proofs.merging.out.take_all.Goals as goal
@@ -24,5 +23,4 @@ returns c =
     let l = c.loop-p in
     let w = l.invariant in
     taking_end w c.requires.0 (omega (arith, slots_length a.waiting a.pend.now))
-    (within_is l.table (slot_words * l.gap.from) (slot_words * a.count) (slot_words * l.gap.to) (omega (arith, w.within)) (omega (arith, w.long)) c.copy_within.ensures.after)
-    (cleared c.copy_within.new.self _ _ (omega (arith, w.within, w.order)) (omega (arith, w.long, c.copy_within.ensures.len)) (c.fill.ensures.after (λ y e. e)))
+    c.close.ensures (cleared c.close.new.table _ _ (omega (arith, w.within, w.order)) (omega (arith, w.long, c.close.auto.table)) (c.fill.ensures.after (λ y e. e)))
