@@ -34,12 +34,12 @@ pub(crate) fn open(view: &View, handle: Handle) -> bool
 }
 
 // 13 for the sizes and the handle, then 3.
-pub(crate) fn admit<'a>(
+pub(crate) fn admit<'a, 't>(
     log: &'a [u8],
     used: Used,
-    table: &'a [u32],
+    table: &'t [u32],
     handle: Handle,
-) -> Result<View<'a>, Refusal>
+) -> Result<View<'a, 't>, Refusal>
     ensures mark { Admits log.now used table.now handle (marked result) }
     ensures view { Viewed log.now table.now result }
 {

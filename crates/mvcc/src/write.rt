@@ -22,14 +22,14 @@ use keycode::Refusal;
 use keycode::code::{version_code, write_code};
 
 // 13, 2, 3, 4, 5. A read-only handle is never refused with 3, so that 2 may be asked after it.
-fn allowed<'a>(
+fn allowed<'a, 't>(
     log: &'a [u8],
     used: Used,
-    table: &'a [u32],
+    table: &'t [u32],
     handle: Handle,
     klen: usize,
     vlen: usize,
-) -> Result<View<'a>, Refusal>
+) -> Result<View<'a, 't>, Refusal>
     ensures mark { Allows log.now used table.now handle klen vlen (marked result) }
     ensures view { Viewed log.now table.now result }
 {

@@ -7,7 +7,7 @@ use crate::engine::view::View;
 use crate::keydir::SLOT_WORDS;
 use keycode::Refusal;
 
-impl View<'_> {
+impl View<'_, '_> {
     // The room behind the entries.
     pub fn room_in(&self) -> Option<usize>
         ensures { result ≡ room_in self.now.log.now self.now.mark }

@@ -16,7 +16,7 @@ pub struct Mark {
 }
 
 // Err: 13, where the sizes are not those of a store.
-pub fn enter<'a>(log: &'a [u8], used: Used, table: &'a [u32]) -> Result<View<'a>, Refusal>
+pub fn enter<'a, 't>(log: &'a [u8], used: Used, table: &'t [u32]) -> Result<View<'a, 't>, Refusal>
     ensures mark { marked result ≡ entered_by log.now used table.now }
     ensures view { Viewed log.now table.now result }
 {

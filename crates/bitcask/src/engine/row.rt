@@ -9,7 +9,7 @@ use crate::engine::view::View;
 use crate::keydir::{key_of as slot_key, slot_at, value_of as slot_value};
 use keycode::Part;
 
-impl<'a> View<'a> {
+impl<'a> View<'a, '_> {
     pub fn key_at(&self, spot: Spot) -> &'a [u8]
         requires { rank spot (shown self.now) < length (shown self.now) }
         ensures { result.now ≡ (row_at spot (shown self.now)).key }

@@ -21,7 +21,7 @@ pub struct Span {
     pub to: Spot,
 }
 
-impl View<'_> {
+impl View<'_, '_> {
     // The rows whose keys lie within the bounds.
     pub(crate) fn range(&self, lower: Bound, low: &[u8], upper: Bound, high: &[u8]) -> Span
         ensures { Spans (shown self.now) lower low.now upper high.now result }

@@ -13,7 +13,7 @@ pub struct Spot {
     pub(crate) number: usize,
 }
 
-impl View<'_> {
+impl View<'_, '_> {
     // Ok: the place of a key; Err: the place where it belongs.
     pub fn find(&self, key: &[u8]) -> Result<Spot, Spot>
         ensures { placed result (shown self.now) ≡ place_by key.now (shown self.now) }

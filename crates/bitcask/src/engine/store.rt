@@ -16,7 +16,7 @@ pub struct Store<'a> {
 
 impl Store<'_> {
     // What there is to read, until the next write.
-    pub fn view(&self) -> View<'_>
+    pub fn view(&self) -> View<'_, '_>
         ensures { Views self.now.log.now self.now.table.now self.now.mark result }
     {
         View {

@@ -22,7 +22,7 @@ fn admits(bound: Bound, o: Ordering) -> bool
     }
 }
 
-impl View<'_> {
+impl View<'_, '_> {
     // The row before a place, where a lower bound admits it.
     pub fn row_before(&self, spot: Spot, lower: Bound, low: &[u8]) -> Option<Spot>
         requires { rank spot (shown self.now) ≤ length (shown self.now) }
