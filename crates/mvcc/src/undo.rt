@@ -13,6 +13,8 @@ use crate::end::clear::del_key;
 use crate::payload::VERSION_BYTES;
 use bitcask::Used;
 use bitcask::append::room_after;
+use bitcask::engine::span::rows_in;
+use bitcask::engine::spot::{meet, stands};
 use bitcask::engine::{Mark, Span, Spot, Store, View};
 use bitcask::entry::write::copy_into;
 use keycode::code::Code;
@@ -42,7 +44,7 @@ fn all_writes(view: &View, span: Span) -> bool
     ensures { result ≡ all_users (pairs (between span.from span.to (shown view.now))) }
 {
     let mut at = span.from;
-    while !view.meet(at, span.to) {
+    while !meet(view.log, view.table, view.mark, at, span.to) {
         if !is_write(view.key_at(at)) {
             return false;
         }
@@ -68,7 +70,8 @@ fn end_row(store: &mut Store, spot: Spot)
     ensures lent { SameLent store.old store.new }
     ensures state { state_of store.new ≡ end_where (state_of store.old) (rank spot (kept store.old)) }
 {
-    if store.view().stands(spot) {
+    let view = store.view();
+    if stands(view.log, view.table, view.mark, spot) {
         store.end_at(spot);
     }
 }
@@ -124,7 +127,7 @@ pub(crate) fn undo(
     let once = view.span_room(Some(view.log.len() - mark.used.len), span);
     let twice = view.span_room(once, span);
     room_after(twice, key.len(), 0).ok_or(Refusal::LogFull)?;
-    let n = view.rows_in(span);
+    let n = rows_in(log, table, mark, span);
     let mut store = Store { log, table, mark };
     undo_many(&mut store, span.from, n, version);
     del_key(&mut store, key);

@@ -1,5 +1,6 @@
-// The rows of a range.
+// The rows of a range. How many a span has is known of any log, table and mark; the method `rows_in` is the same of a view.
 ghost use Rattle.std.specs.Prelude.{◌≡◌, ◌-◌, ◌≤◌, length};
+ghost use Rattle.bitcask.specs.engine.Rows.{rows};
 ghost use Rattle.bitcask.specs.engine.Views.{shown};
 ghost use Rattle.bitcask.specs.engine.Spots.{rank};
 ghost use Rattle.bitcask.specs.engine.Ranges.{Spans, between};
@@ -8,6 +9,7 @@ ghost use Rattle.bitcask.specs.engine.Endings.{room_tombs};
 
 use crate::answers::Bound;
 use crate::append::room_after;
+use crate::engine::mark::Mark;
 use crate::engine::spot::Spot;
 use crate::engine::view::View;
 use crate::entry::write::copy_into;
@@ -19,6 +21,13 @@ use keycode::prefix_end;
 pub struct Span {
     pub from: Spot,
     pub to: Spot,
+}
+
+// How many rows a span has.
+pub fn rows_in(log: &[u8], table: &[u32], mark: Mark, span: Span) -> usize
+    ensures { result ≡ rank span.to (rows log.now table.now mark) - rank span.from (rows log.now table.now mark) }
+{
+    span.to.number.saturating_sub(span.from.number)
 }
 
 impl View<'_, '_> {
@@ -50,11 +59,11 @@ impl View<'_, '_> {
         }
     }
 
-    // How many rows a span has.
+    // `rows_in` of a span of this view.
     pub fn rows_in(&self, span: Span) -> usize
         ensures { result ≡ rank span.to (shown self.now) - rank span.from (shown self.now) }
     {
-        span.to.number.saturating_sub(span.from.number)
+        rows_in(self.log, self.table, self.mark, span)
     }
 
     // The room that the tombstones of a span's rows leave. It stops at the log's end, so that no sum of forged lengths can wrap.

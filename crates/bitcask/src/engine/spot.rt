@@ -1,9 +1,12 @@
-// The places of rows in key order. A spot is one row's place, or the place past the last; what is inside it is for this crate alone.
+// The places of rows in key order. A spot is one row's place, or the place past the last; what is inside it is for this crate alone. What
+// compares places alone, `meet` and `stands`, holds of any log, table and mark: the methods of these names are the same of a view.
 ghost use Rattle.std.specs.Prelude.{◌≡◌, ◌+◌, ◌≤◌, ◌<◌, leb, ltb, length};
+ghost use Rattle.bitcask.specs.engine.Rows.{rows};
 ghost use Rattle.bitcask.specs.engine.Views.{shown};
 ghost use Rattle.bitcask.specs.engine.Spots.{rank, placed, place_by, from_rank, upto_rank};
 
 use crate::answers::Bound;
+use crate::engine::mark::Mark;
 use crate::engine::view::View;
 use crate::keydir::find as find_slot;
 use crate::rank::{from_bound, upto_bound};
@@ -11,6 +14,20 @@ use crate::rank::{from_bound, upto_bound};
 #[derive(Clone, Copy, Debug, PartialEq, Eq)]
 pub struct Spot {
     pub(crate) number: usize,
+}
+
+// Whether the second of two places comes no later than the first, so that no row lies from the first up to it.
+pub fn meet(log: &[u8], table: &[u32], mark: Mark, a: Spot, b: Spot) -> bool
+    ensures { result ≡ leb (rank b (rows log.now table.now mark)) (rank a (rows log.now table.now mark)) }
+{
+    b.number <= a.number
+}
+
+// Whether a place has a row: the one past the last has none.
+pub fn stands(log: &[u8], table: &[u32], mark: Mark, spot: Spot) -> bool
+    ensures { result ≡ ltb (rank spot (rows log.now table.now mark)) (length (rows log.now table.now mark)) }
+{
+    spot.number < mark.count
 }
 
 impl View<'_, '_> {
@@ -42,11 +59,11 @@ impl View<'_, '_> {
         }
     }
 
-    // Whether the second of two places comes no later than the first, so that no row lies from the first up to it.
+    // `meet` of places in this view.
     pub fn meet(&self, a: Spot, b: Spot) -> bool
         ensures { result ≡ leb (rank b (shown self.now)) (rank a (shown self.now)) }
     {
-        b.number <= a.number
+        meet(self.log, self.table, self.mark, a, b)
     }
 
     // The place of the row behind a row.
@@ -69,10 +86,10 @@ impl View<'_, '_> {
         }
     }
 
-    // Whether a place has a row: the one past the last has none.
+    // `stands` of a place in this view.
     pub fn stands(&self, spot: Spot) -> bool
         ensures { result ≡ ltb (rank spot (shown self.now)) (length (shown self.now)) }
     {
-        spot.number < self.mark.count
+        stands(self.log, self.table, self.mark, spot)
     }
 }

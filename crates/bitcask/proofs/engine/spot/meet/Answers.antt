@@ -1,7 +1,7 @@
 -- `meet` compares ranks.
 use mathlib.Core.Path.{refl}
 use Rattle.bitcask.specs.engine.Spots.{rank}
-use Rattle.bitcask.proofs.engine.view.View.meet.Goals as goal
+use Rattle.bitcask.proofs.engine.spot.meet.Goals as goal
 
 pub returns : goal.returns
 unfolding rank

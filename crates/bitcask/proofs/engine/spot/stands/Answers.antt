@@ -4,8 +4,8 @@ use Prim.Native.Nat.{ℕ}
 use lib.Dec.{ltb}
 use Rattle.bitcask.specs.engine.Spots.{rank}
 use Rattle.bitcask.proofs.engine.RowLaws.{rows-count}
-use Rattle.bitcask.proofs.engine.view.View.stands.Goals as goal
+use Rattle.bitcask.proofs.engine.spot.stands.Goals as goal
 
 pub returns : goal.returns
 unfolding rank
-returns c = let a = c.args in let v = a.self.now in ap (λ (n : ℕ). ltb a.spot.number n) (sym (rows-count v.log.now v.table.now v.mark))
+returns c = let a = c.args in ap (λ (n : ℕ). ltb a.spot.number n) (sym (rows-count a.log.now a.table.now a.mark))
