@@ -4,7 +4,7 @@ use mathlib.Core.Path.{◌≡◌, refl, sym, ap, ◌∙◌, subst}
 use Rattle.std.specs.Prelude.{Result, Ok, Err, Option, None, Some}
 use mathlib.Core.List.{List, [], ◌∷◌}
 use native.Mathlib.Omega.{arith}
-use lib.ListN.{length}
+use lib.ListN.{length, replicate}
 use Rattle.keycode.proofs.Basics.{nope}
 use Rattle.bitcask.specs.entry.Reading.{entry_at}
 use Rattle.bitcask.specs.declared.keydir.slots.Slot.{Slot}
@@ -21,7 +21,7 @@ use Rattle.keycode.specs.declared.refusal.Refusal.{Refusal}
 use Rattle.keycode.specs.declared.refusal.Refusal.TheVariants.{TableFull}
 use Rattle.bitcask.specs.recovery.Recover.{Item, item_of, next, items_of, ends, step_in, then_run, run}
 use Rattle.bitcask.specs.recovery.Waiting.{max_waiting, Holds, Enters, Settles}
-use Rattle.bitcask.specs.recovery.Passing.{standing, TakesEntry, Tidy, passed_by, GoesOver}
+use Rattle.bitcask.specs.recovery.Passing.{standing, TakesEntry, Tidy, passed_by, GoesOver, Passes}
 use Rattle.bitcask.proofs.recovery.ItemLaws.{item_stands}
 use Rattle.bitcask.proofs.recovery.SettleLaws.{merges_alone}
 use Rattle.bitcask.proofs.recovery.TakeLaws.{full-says, next-says}
@@ -178,22 +178,35 @@ module _ {log : List ℕ} {used : ℕ} {t : List ℕ} {n start most : ℕ} {x pd
               exact = λ ss y. onward i p.1 b.2 en ss (w.exact ss y);
             }
 
-    pub passing_full : (f : Refusal) → o ≡ Err f → GoesOver log used t n start most (Err f) x'
-    passing_full f e = go (stands (item_of (entry_at log used at) at) refl (λ q. nope (cc)))
-      where
-        no_run : (i : Item) → item_of (entry_at log used at) at ≡ Some i → (ss : List Slot) → Tidy log t n ss
-            → (run log (length t / slot_words) (items_of most log used start) ss ≡ None) × (f ≡ TableFull)
-        no_run i q ss y =
-            let u = w.exact ss y in
-            let k = v.entry i q in
-            let d = full-says (k.2.exact u.slots u.holds) (refused f k.0 (sym k.1 ∙ e)) in
-            (sym u.runs ∙ one_run i pos q u.slots None d.0, d.1)
+    -- an entry that is refused: the run of the entries comes to nothing, and 8 is why
+    full_run : (f : Refusal) → o ≡ Err f → (i : Item) → item_of (entry_at log used at) at ≡ Some i → (ss : List Slot) → Tidy log t n ss
+        → (run log (length t / slot_words) (items_of most log used start) ss ≡ None) × (f ≡ TableFull)
+    full_run f e i q ss y =
+        let u = w.exact ss y in
+        let k = v.entry i q in
+        let d = full-says (k.2.exact u.slots u.holds) (refused f k.0 (sym k.1 ∙ e)) in
+        (sym u.runs ∙ one_run i pos q u.slots None d.0, d.1)
 
+    -- the table is left as it stands then
+    pub passing_refused : (f : Refusal) → o ≡ Err f → GoesOver log used t n start most (Err f) x'
+    passing_refused f e = go (stands (item_of (entry_at log used at) at) refl (λ q. nope (cc)))
+      where
         go : (i : Item) × (item_of (entry_at log used at) at ≡ Some i) → GoesOver log used t n start most (Err f) x'
         go p = record {
           within = λ a q. nope (cc);
-          answer = λ ss y. (let d = no_run p.0 p.1 ss y in rw d.0 (ap (λ (r : Refusal). Err r) d.1));
-          table = λ ss y rs q. nope (cc ((no_run p.0 p.1 ss y).0));
+          answer = λ ss y. (let d = full_run f e p.0 p.1 ss y in rw d.0 (ap (λ (r : Refusal). Err r) d.1));
+          table = λ ss y rs q. nope (cc ((full_run f e p.0 p.1 ss y).0));
+        }
+
+    -- and where it is cleared the words are those of an opening that is refused
+    pub passing_full : (f : Refusal) {z : List ℕ} → z ≡ replicate (length x') 0 → length x' ≡ length x → o ≡ Err f → Passes log used t n start most (Err f) z
+    passing_full f {z} ez lx e = go (stands (item_of (entry_at log used at) at) refl (λ q. nope (cc)))
+      where
+        go : (i : Item) × (item_of (entry_at log used at) at ≡ Some i) → Passes log used t n start most (Err f) z
+        go p = record {
+          within = λ a q. nope (cc);
+          answer = (passing_refused f e).answer;
+          table = λ ss y. rw (full_run f e p.0 p.1 ss y).0 (ez ∙ ap (λ (k : ℕ). replicate k 0) (lx ∙ w.long));
         }
 
     none_there : o ≡ Ok None → (a : Option Item) → item_of (entry_at log used at) at ≡ a → a ≡ None

@@ -3,7 +3,7 @@ use mathlib.Core.Path.{refl, ap, ◌∙◌}
 use lib.ListN.{length}
 use Rattle.std.specs.Prelude.{Ok}
 use Rattle.std.proofs.lemmas.Result.{err_from_is_err_and}
-use Rattle.bitcask.proofs.recovery.PassLaws.{passing_start, passing_settled, passing_next, passing_full, passing_stop, passing_spent}
+use Rattle.bitcask.proofs.recovery.PassLaws.{passing_start, passing_settled, passing_next, passing_refused, passing_stop, passing_spent}
 use Rattle.bitcask.proofs.recovery.passing.pass_with.Goals as goal
 use Rattle.bitcask.proofs.recovery.passing.pass_with.Goals.{else-loop-left-test, then-loop-left-test+in_ok-next+in_default}
 
@@ -18,7 +18,7 @@ pub returns-in_err-next : goal.returns-in_err-next
 returns-in_err-next c =
     let w = passing_settled c.loop-left.invariant.0 c.make_room-h.auto.table (omega (arith, c.make_room-h.ensures.0)) c.make_room-h.ensures.1 in
     let p = err_from_is_err_and c.from_residual.result c.from_residual.ensures.1 in
-    rw (p.1, p.2) (passing_full w c.loop-left-test.true c.take_entry.ensures _ c.in_err-next.was)
+    rw (p.1, p.2) (passing_refused w c.loop-left-test.true c.take_entry.ensures _ c.in_err-next.was)
 
 pub loop-left-preserved : goal.loop-left-preserved
 loop-left-preserved c =
