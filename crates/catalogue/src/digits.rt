@@ -1,9 +1,7 @@
 // Numbers and bytes in hex digits. A byte that is no digit counts as one all the same: the requests are our own.
 ghost use Rattle.std.specs.Prelude.{◌<◌};
 
-use std::alloc::AllocError;
-
-// By hand: `to_digit` and crate hex refuse a byte that is no digit, and here it counts as one.
+// By hand: `to_digit` refuses a byte that is no digit, and here it counts as one.
 fn nibble(digit: u8) -> u8
     ensures { result < 16 }
 {
@@ -24,6 +22,21 @@ fn byte_of(pair: &[u8]) -> u8 {
     }
 }
 
+fn digit_of(nibble: u8) -> u8
+    requires { nibble < 16 }
+{
+    if nibble < 10 {
+        b'0' + nibble
+    } else {
+        b'a' - 10 + nibble
+    }
+}
+
+// The two digits of a byte.
+pub(crate) fn digits_of(byte: u8) -> [u8; 2] {
+    [digit_of(byte / 16), digit_of(byte % 16)]
+}
+
 // The number of a word's digits, the last sixteen of them.
 pub(crate) fn number(word: &[u8]) -> u64 {
     word.iter().fold(0, |value: u64, digit| {
@@ -40,7 +53,10 @@ pub(crate) fn decimal(word: &[u8]) -> usize {
     })
 }
 
-// The bytes of a word's digits, put behind others.
-pub(crate) fn unhex(word: &[u8], bytes: &mut Vec<u8>) -> Result<(), AllocError> {
-    bytes.extend(word.chunks(2).map(byte_of))
+// The bytes of a word's digits, put to the front of a lent buffer, and how many they are. Those that find no room are left out.
+pub(crate) fn unhex(word: &[u8], out: &mut [u8]) -> usize {
+    for (place, pair) in out.iter_mut().zip(word.chunks(2)) {
+        *place = byte_of(pair);
+    }
+    word.len().div_ceil(2).min(out.len())
 }

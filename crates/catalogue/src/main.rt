@@ -16,31 +16,30 @@ mod fields;
 mod lines;
 mod requests;
 
-use lines::{LONGEST, next_line};
-use requests::answer_line;
-use std::alloc::Global;
-use std::io;
-use std::io::{BufRead, BufReader};
+use answers::Answer;
+use lines::Block;
+use requests::Desk;
+use std::io::Read;
 
-// Blocks of this length are read: a call of the system for each byte would take most of a long run's time.
-const BLOCK: usize = 65536;
+// The most bytes of an answer, its line included; what has no room is dropped.
+const MOST: usize = 16384;
 
 // A proved loop has to end, and nothing says that an input does: it has as many turns as no run uses up.
-fn run<R: BufRead, P: Print>(alloc: Global, input: &mut R, rt: &P) -> io::Result<()> {
-    let mut buffer = Vec::with_capacity(alloc, LONGEST)?;
+fn run<R: Read, P: Print>(input: &mut R, rt: &P) {
+    let mut block = Block::new();
+    let mut desk = Desk::new();
+    let mut out = [0; MOST];
     for _ in 0..u64::MAX {
-        let Some(line) = next_line(input, &mut buffer) else {
+        let Some(line) = block.next_line(input) else {
             break;
         };
-        let answer = answer_line(alloc, line)?;
+        let mut answer = Answer::new(&mut out);
+        desk.answer_line(line, &mut answer);
         // An answer that is not written does not keep the next from being tried.
-        let _ = rt.write_all(&answer);
+        let _ = rt.write_all(answer.as_slice());
     }
-    Ok(())
 }
 
-fn main(rt: HostRuntime) -> io::Result<()> {
-    let alloc = rt.alloc();
-    let mut input = BufReader::with_capacity(alloc, BLOCK, rt.reader())?;
-    run(alloc, &mut input, &rt)
+fn main(rt: HostRuntime) {
+    run(&mut rt.stdin(), &rt);
 }

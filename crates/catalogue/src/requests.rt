@@ -1,10 +1,10 @@
 // A line of standard input, and what it asks of the two calls.
-use crate::answers::{Outcome, Spelt};
+use crate::answers::Answer;
 use crate::digits::{decimal, unhex};
-use crate::fields::{fields_of, kinds_of};
-use crate::lines::words_of;
+use crate::fields::{Fields, Kinds, Texts};
+use crate::lines::Words;
+use keycode::parts::clip;
 use rows::{decode_row, encode_row};
-use std::alloc::{AllocError, Global};
 
 // The longest buffer into which is encoded.
 const ROOM: usize = 4096;
@@ -12,54 +12,65 @@ const ROOM: usize = 4096;
 // What a buffer holds before a call, so that what the call leaves can be told.
 const MARK: u8 = 0xaa;
 
-// The most bytes of an answer, its line included; what has no room is dropped.
-const MOST: usize = 16384;
+// The most bytes of a request's strings or its key: a line spells each by two digits.
+const TEXTS: usize = 4096;
 
-fn encode(alloc: Global, room: &[u8], fields: &[&[u8]]) -> Result<String, AllocError> {
-    let mut texts = Vec::new(alloc);
-    let row = fields_of(alloc, fields, &mut texts)?;
-    let mut buffer = vec![in alloc; MARK; decimal(room).min(ROOM)]?;
-    let outcome = Outcome(encode_row(&row, &texts, &mut buffer));
-    if buffer.is_empty() {
-        return format!(in alloc; "{outcome} -");
-    }
-    let bytes = hex::encode(alloc, buffer)?;
-    format!(in alloc; "{outcome} {bytes}")
+// Room for a request, lent to each in turn: a run takes none from a heap, so none can be missing.
+#[derive(Drop)]
+pub(crate) struct Desk {
+    texts: [u8; TEXTS],
+    buffer: [u8; ROOM],
 }
 
-fn decode(alloc: Global, digits: &[u8], kinds: &[&[u8]]) -> Result<String, AllocError> {
-    let mut key = Vec::new(alloc);
-    if !digits.starts_with(b"-") {
-        unhex(digits, &mut key)?;
-    }
-    let read = decode_row(&kinds_of(alloc, kinds)?, &key);
-    let mut answer = format!(in alloc; "{}", Outcome(read.map(|row| row.len)))?;
+fn encode(
+    mut words: Words<'_>,
+    texts: &mut [u8],
+    buffer: &mut [u8; ROOM],
+    answer: &mut Answer<'_>,
+) {
+    let room = decimal(words.next().unwrap_or(b""));
+    let mut texts = Texts::new(texts);
+    let row = Fields::of(words, &mut texts);
+    let buffer = &mut buffer[..room.min(ROOM)];
+    buffer.fill(MARK);
+    answer.outcome(encode_row(row.as_slice(), texts.as_slice(), buffer));
+    answer.buffer(buffer);
+}
+
+fn decode(mut words: Words<'_>, texts: &mut [u8], answer: &mut Answer<'_>) {
+    let digits = words.next().unwrap_or(b"");
+    let len = if digits.starts_with(b"-") {
+        0
+    } else {
+        unhex(digits, texts)
+    };
+    let read = decode_row(Kinds::of(words).as_slice(), clip(texts, 0, len));
+    answer.outcome(read.map(|row| row.len));
     if let Ok(row) = read {
         for field in row.fields() {
-            write!(answer, "{}", Spelt(*field))?;
+            answer.field(*field);
         }
     }
-    Ok(answer)
 }
 
-// What a request is answered. Its first letter says which it is; a line that is none has no answer.
-fn answer(alloc: Global, line: &[u8]) -> Result<String, AllocError> {
-    let words = words_of(alloc, line)?;
-    let operand = words.get(1).copied().unwrap_or(b"");
-    let others = words.get(2..).unwrap_or(&[]);
-    match line {
-        [b'e', ..] => encode(alloc, operand, others),
-        [b'd', ..] => decode(alloc, operand, others),
-        _ => Ok(String::new(alloc)),
+impl Desk {
+    pub(crate) fn new() -> Self {
+        Desk {
+            texts: [0; TEXTS],
+            buffer: [0; ROOM],
+        }
     }
-}
 
-// A line with its answer behind it.
-pub(crate) fn answer_line(alloc: Global, line: &[u8]) -> Result<Vec<u8>, AllocError> {
-    let mut text = Vec::new(alloc);
-    text.extend_from_slice(line)?;
-    text.extend_from_slice(answer(alloc, line)?.as_bytes())?;
-    text.push(b'\n')?;
-    text.truncate(MOST);
-    Ok(text)
+    // A line with its answer behind it. Its first letter says what it asks; a line that asks nothing has no answer.
+    pub(crate) fn answer_line(&mut self, line: &[u8], answer: &mut Answer<'_>) {
+        answer.put(line);
+        let mut words = Words(line);
+        words.next();
+        match line {
+            [b'e', ..] => encode(words, &mut self.texts, &mut self.buffer, answer),
+            [b'd', ..] => decode(words, &mut self.texts, answer),
+            _ => {}
+        }
+        answer.put(b"\n");
+    }
 }
