@@ -1,13 +1,20 @@
 // The engine's answers beside the plain reading.
-use crate::plain::{Live, Reading, read_log};
+use crate::plain::{KEYS, Live, Reading, read_log};
 use crate::tally::{Case, Tally, more};
 use bitcask::{Bound, KeyValue, Used, get, open, scan_step};
-use keycode::parts::clip;
-use keycode::{Part, Refusal};
-use std::alloc::{AllocError, Global};
+use keycode::{Part, Refusal, number_of};
+
+// Refusals are compared by their numbers.
+fn is_full(answer: Result<Used, Refusal>) -> bool {
+    answer.is_err_and(|refusal| number_of(refusal) == 8)
+}
 
 fn same_answer(answer: Result<Used, Refusal>, reading: &Reading) -> bool {
-    answer.map(|used| used.len) == reading.cut.ok_or(Refusal::TableFull)
+    match (answer, reading.cut) {
+        (Ok(used), Some(cut)) => used.len == cut,
+        (Err(_), None) => is_full(answer),
+        _ => false,
+    }
 }
 
 // A slot's first word is 1 past the entry's offset, and 0 where the slot is free.
@@ -25,37 +32,49 @@ fn same_slot(slot: &[u32], live: Option<&Live>) -> bool {
 
 // Slot i is that of the live key with i live keys below it.
 fn same_table(table: &[u32], reading: &Reading) -> bool {
-    let mut live = reading.live.values();
-    table.chunks(3).all(|slot| same_slot(slot, live.next()))
+    table
+        .chunks(3)
+        .enumerate()
+        .all(|(i, slot)| same_slot(slot, reading.nth(i)))
 }
 
 fn same_get(answer: Result<Part, Refusal>, live: Option<&Live>) -> bool {
-    answer == live.map(|live| live.value).ok_or(Refusal::Absent)
+    match (answer, live) {
+        (Ok(value), Some(live)) => value == live.value,
+        (Err(refusal), None) => number_of(refusal) == 1,
+        _ => false,
+    }
 }
 
 fn same_step(answer: Result<KeyValue, Refusal>, live: Option<&Live>) -> bool {
-    let pair = live.map(|live| KeyValue {
-        key: live.key,
-        value: live.value,
-    });
-    answer == pair.ok_or(Refusal::Absent)
+    match (answer, live) {
+        (Ok(pair), Some(live)) => pair.key == live.key && pair.value == live.value,
+        (Err(refusal), None) => number_of(refusal) == 1,
+        _ => false,
+    }
 }
 
 // An opened log, and what it is to answer.
 #[derive(Clone, Copy)]
-struct Opened<'a, 'l> {
+struct Opened<'a> {
     log: &'a [u8],
     used: Used,
     table: &'a [u32],
-    reading: &'a Reading<'l>,
+    reading: &'a Reading,
     case: Case,
 }
 
-impl Opened<'_, '_> {
-    fn run_get(&self, key: &[u8], tally: &mut Tally) {
+impl Opened<'_> {
+    fn run_get(&self, number: usize, key: &[u8], tally: &mut Tally) {
         let answer = get(self.log, self.used, self.table, key);
-        tally.judge(same_get(answer, self.reading.live.get(key)), self.case);
+        tally.judge(same_get(answer, self.reading.of(number)), self.case);
         tally.gets = more(tally.gets);
+    }
+
+    fn run_gets(&self, tally: &mut Tally) {
+        for (number, key) in KEYS.into_iter().enumerate() {
+            self.run_get(number, key, tally);
+        }
     }
 
     fn step_after(&self, key: Option<&[u8]>) -> Result<KeyValue, Refusal> {
@@ -79,35 +98,29 @@ impl Opened<'_, '_> {
 
     // A step to each live key, and one past the last.
     fn run_steps(&self, tally: &mut Tally) {
-        let mut after = None;
-        for (key, live) in self.reading.live.iter() {
-            self.run_step(after, Some(live), tally);
-            after = Some(*key);
+        let mut after: Option<&[u8]> = None;
+        for (number, key) in KEYS.into_iter().enumerate() {
+            let live = self.reading.of(number);
+            if live.is_some() {
+                self.run_step(after, live, tally);
+                after = Some(key);
+            }
         }
         self.run_step(after, None, tally);
-    }
-
-    fn run(&self, tally: &mut Tally) {
-        self.run_get(b"", tally);
-        self.run_get(b"a", tally);
-        self.run_get(b"b", tally);
-        self.run_steps(tally);
     }
 }
 
 // One opening into a table as it is lent; after one that is not refused, the gets and a scan.
-pub fn run_open(
-    alloc: Global,
-    log: &[u8],
-    table: &mut [u32],
-    case: Case,
-    tally: &mut Tally,
-) -> Result<(), AllocError> {
-    let reading = read_log(alloc, clip(log, 0, case.used), case.slots)?;
+pub fn run_open(log: &[u8], table: &mut [u32], case: Case, tally: &mut Tally) {
+    let reading = read_log(log, case.used, case.slots);
     let answer = open(log, Used { len: case.used }, table);
     tally.judge(same_answer(answer, &reading), case);
     tally.judge(same_table(table, &reading), case);
     tally.openings = more(tally.openings);
+    if is_full(answer) {
+        tally.full = more(tally.full);
+        return;
+    }
     let opened = Opened {
         log,
         used: answer.unwrap_or(Used { len: 0 }),
@@ -115,10 +128,6 @@ pub fn run_open(
         reading: &reading,
         case,
     };
-    if matches!(answer, Err(Refusal::TableFull)) {
-        tally.full = more(tally.full);
-    } else {
-        opened.run(tally);
-    }
-    Ok(())
+    opened.run_gets(tally);
+    opened.run_steps(tally);
 }

@@ -11,19 +11,13 @@ mod tally;
 
 use compare::run_open;
 use logs::{KINDS, make_log};
-use std::alloc::{AllocError, Global};
-use std::io;
 use tally::{Case, Tally, more, show_tally};
 
 // One log, cut at every length and opened into tables of every size.
-fn run_log(
-    alloc: Global,
-    entries: usize,
-    code: usize,
-    tally: &mut Tally,
-) -> Result<(), AllocError> {
-    let log = make_log(alloc, entries, code)?;
-    for used in 0..=log.len() {
+fn run_log(entries: usize, code: usize, tally: &mut Tally) {
+    let log = make_log(entries, code);
+    let bytes = log.as_slice();
+    for used in 0..=bytes.len() {
         for slots in 0..=3 {
             let case = Case {
                 entries,
@@ -32,27 +26,25 @@ fn run_log(
                 slots,
             };
             let mut table = [7u32; 9];
-            run_open(alloc, log.as_slice(), &mut table[..3 * slots], case, tally)?;
+            run_open(bytes, &mut table[..3 * slots], case, tally);
         }
     }
     tally.logs = more(tally.logs);
-    Ok(())
 }
 
-fn run_logs(alloc: Global) -> Result<Tally, AllocError> {
+fn run_logs() -> Tally {
     let mut tally = Tally::default();
     let codes = [1, KINDS, KINDS * KINDS, KINDS * KINDS * KINDS];
     for (entries, end) in codes.into_iter().enumerate() {
         for code in 0..end {
-            run_log(alloc, entries, code, &mut tally)?;
+            run_log(entries, code, &mut tally);
         }
     }
-    Ok(tally)
+    tally
 }
 
-fn main(rt: HostRuntime) -> io::Result<()> {
-    let alloc = rt.alloc();
-    let tally = run_logs(alloc)?;
-    show_tally(&rt, alloc, &tally)?;
-    readings::show_readings(&rt)
+fn main(rt: HostRuntime) {
+    let tally = run_logs();
+    show_tally(&rt, &tally);
+    readings::show_readings(&rt);
 }

@@ -1,10 +1,11 @@
-// A plain reading of a log: its whole entries, one after the other, into a map. It shares no code with the engine, and never moves a
-// slot.
+// A plain reading of a log over the keys "", "a" and "b": its whole entries, one after the other, each key's last one kept by the key's
+// number. It shares no code with the engine, and never moves a slot.
 ghost use Rattle.std.specs.Prelude.{◌<◌, ◌≤◌, length, IfSome};
 
 use keycode::Part;
-use std::alloc::{AllocError, Global};
-use std::collections::BTreeMap;
+
+// The keys of the logs, in their order: a key's number is its place.
+pub const KEYS: [&[u8]; 3] = [b"", b"a", b"b"];
 
 // Where a live key's entry begins, and the places of its key and its value.
 #[derive(Clone, Copy)]
@@ -14,11 +15,13 @@ pub struct Live {
     pub value: Part,
 }
 
-#[derive(Drop)]
-pub struct Reading<'a> {
+// By hand: three keys are all there are, and a map would want a heap.
+#[derive(Clone, Copy)]
+pub struct Reading {
     // How far the whole entries go; None where a new key found no slot, and then no key is live.
     pub cut: Option<usize>,
-    pub live: BTreeMap<&'a [u8], Live>,
+    // By the key's number.
+    pub live: [Option<Live>; 3],
 }
 
 #[derive(Clone, Copy)]
@@ -67,24 +70,59 @@ fn entry_at(log: &[u8], at: usize) -> Option<Entry<'_>>
     })
 }
 
-// All entries, into so many slots.
-pub fn read_log(alloc: Global, log: &[u8], slots: usize) -> Result<Reading<'_>, AllocError> {
-    let mut live = BTreeMap::new(alloc);
+// One past the last number for a key that no log here has.
+fn key_number(key: &[u8]) -> usize {
+    KEYS.iter()
+        .position(|known| *known == key)
+        .unwrap_or(KEYS.len())
+}
+
+impl Reading {
+    // How many keys are live.
+    fn count(&self) -> usize {
+        self.live.iter().filter(|live| live.is_some()).count()
+    }
+
+    // What is live of a key.
+    pub fn of(&self, number: usize) -> Option<&Live> {
+        self.live.get(number)?.as_ref()
+    }
+
+    // The live key that has n live keys below it.
+    pub fn nth(&self, n: usize) -> Option<&Live> {
+        self.live.iter().filter_map(|live| live.as_ref()).nth(n)
+    }
+
+    // Whether the entry found room.
+    fn take(&mut self, entry: Entry<'_>, slots: usize) -> bool {
+        let number = key_number(entry.key);
+        if entry.live.is_some() && self.of(number).is_none() && slots <= self.count() {
+            return false;
+        }
+        if let Some(place) = self.live.get_mut(number) {
+            *place = entry.live;
+        }
+        true
+    }
+}
+
+// All entries of the first `used` bytes, into so many slots; a log of fewer bytes has none.
+pub fn read_log(log: &[u8], used: usize, slots: usize) -> Reading {
+    let bytes = log.get(..used).unwrap_or(&[]);
+    let mut reading = Reading {
+        cut: None,
+        live: [None; 3],
+    };
     let mut at = 0;
-    while let Some(entry) = entry_at(log, at) {
-        if let Some(place) = entry.live {
-            if slots <= live.len() && !live.contains_key(entry.key) {
-                live.clear();
-                return Ok(Reading { cut: None, live });
-            }
-            live.insert(entry.key, place)?;
-        } else {
-            live.remove(entry.key);
+    while let Some(entry) = entry_at(bytes, at) {
+        if !reading.take(entry, slots) {
+            return Reading {
+                cut: None,
+                live: [None; 3],
+            };
         }
         at = entry.end;
     }
-    Ok(Reading {
-        cut: Some(at),
-        live,
-    })
+    reading.cut = Some(at);
+    reading
 }

@@ -1,8 +1,7 @@
 // What the runs count, and the first case that differed.
 use crate::logs::make_log;
 use crate::show::Hex;
-use std::alloc::Global;
-use std::{fmt, io};
+use std::fmt;
 
 #[derive(Clone, Copy, Debug, PartialEq, Eq)]
 pub struct Case {
@@ -48,19 +47,19 @@ impl fmt::Display for Tally {
     }
 }
 
-fn show_case(rt: &impl Print, alloc: Global, case: Case) -> io::Result<()> {
-    let log = make_log(alloc, case.entries, case.code)?;
+fn show_case(rt: &impl Print, case: Case) {
+    let log = make_log(case.entries, case.code);
     let bytes = Hex(log.as_slice());
-    println!(rt;
+    let _ = println!(rt;
         "first difference: log {bytes} used {} slots {}",
         case.used, case.slots
-    )
+    );
 }
 
-pub fn show_tally(rt: &impl Print, alloc: Global, tally: &Tally) -> io::Result<()> {
-    print!(rt; "{tally}")?;
+// What is not written keeps nothing behind it from being tried.
+pub fn show_tally(rt: &impl Print, tally: &Tally) {
+    let _ = print!(rt; "{tally}");
     if let Some(case) = tally.first {
-        show_case(rt, alloc, case)?;
+        show_case(rt, case);
     }
-    Ok(())
 }
