@@ -26,6 +26,20 @@ impl<'a> Answer<'a> {
         Answer { out, len: 0 }
     }
 
+    pub(crate) fn push(&mut self, byte: u8) {
+        if let Some(place) = self.out.get_mut(self.len) {
+            *place = byte;
+            self.len += 1;
+        }
+    }
+
+    // A few bytes: to have so few copied by the C library takes longer.
+    fn put_short(&mut self, bytes: &[u8]) {
+        for byte in bytes {
+            self.push(*byte);
+        }
+    }
+
     // Bytes as they are.
     pub(crate) fn put(&mut self, bytes: &[u8]) {
         let free = self.out.get_mut(self.len..).unwrap_or(&mut []);
@@ -61,13 +75,13 @@ impl<'a> Answer<'a> {
     pub(crate) fn outcome(&mut self, outcome: Result<usize, Denial>) {
         match outcome {
             Ok(count) => {
-                self.put(b": 0 ");
+                self.put_short(b": 0 ");
                 self.place(count);
             }
             Err(denial) => {
                 let number = denial as u8;
-                self.put(&[b':', b' ', b'0' + number / 10, b'0' + number % 10]);
-                self.put(b" 0000");
+                self.put_short(&[b':', b' ', b'0' + number / 10, b'0' + number % 10]);
+                self.put_short(b" 0000");
             }
         }
     }
@@ -75,24 +89,24 @@ impl<'a> Answer<'a> {
     // A whole buffer behind a space, a dash for none.
     pub(crate) fn buffer(&mut self, buffer: &[u8]) {
         if buffer.is_empty() {
-            self.put(b" -");
+            self.put_short(b" -");
         } else {
-            self.put(b" ");
+            self.push(b' ');
             self.hex(buffer);
         }
     }
 
     // A number's or a boolean's bytes behind a space and the letter.
     fn bytes(&mut self, letter: &[u8], bytes: &[u8]) {
-        self.put(letter);
+        self.put_short(letter);
         self.hex(bytes);
     }
 
     // A decoded string's place and length in the key.
     fn part(&mut self, letter: &[u8], part: Part) {
-        self.put(letter);
+        self.put_short(letter);
         self.place(part.at);
-        self.put(b"+");
+        self.push(b'+');
         self.place(part.len);
     }
 

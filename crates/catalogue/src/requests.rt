@@ -44,12 +44,14 @@ fn decode(mut words: Words<'_>, texts: &mut [u8], answer: &mut Answer<'_>) {
     } else {
         unhex(digits, texts)
     };
-    let read = decode_row(Kinds::of(words).as_slice(), clip(texts, 0, len));
-    answer.outcome(read.map(|row| row.len));
-    if let Ok(row) = read {
-        for field in row.fields() {
-            answer.field(*field);
+    match decode_row(Kinds::of(words).as_slice(), clip(texts, 0, len)) {
+        Ok(row) => {
+            answer.outcome(Ok(row.len));
+            for field in row.fields() {
+                answer.field(*field);
+            }
         }
+        Err(denial) => answer.outcome(Err(denial)),
     }
 }
 
@@ -71,6 +73,6 @@ impl Desk {
             [b'd', ..] => decode(words, &mut self.texts, answer),
             _ => {}
         }
-        answer.put(b"\n");
+        answer.push(b'\n');
     }
 }
