@@ -72,8 +72,8 @@ impl Opened<'_> {
     }
 
     fn run_gets(&self, tally: &mut Tally) {
-        for (number, key) in KEYS.into_iter().enumerate() {
-            self.run_get(number, key, tally);
+        for (number, key) in KEYS.iter().enumerate() {
+            self.run_get(number, *key, tally);
         }
     }
 
@@ -99,11 +99,11 @@ impl Opened<'_> {
     // A step to each live key, and one past the last.
     fn run_steps(&self, tally: &mut Tally) {
         let mut after: Option<&[u8]> = None;
-        for (number, key) in KEYS.into_iter().enumerate() {
+        for (number, key) in KEYS.iter().enumerate() {
             let live = self.reading.of(number);
             if live.is_some() {
                 self.run_step(after, live, tally);
-                after = Some(key);
+                after = Some(*key);
             }
         }
         self.run_step(after, None, tally);
