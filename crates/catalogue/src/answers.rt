@@ -1,4 +1,7 @@
 // Answers in words.
+ghost use Rattle.std.specs.Prelude.{◌≡◌};
+ghost use Rattle.std.specs.Int.{w64, cast_unsigned};
+
 use crate::digits::digits_of;
 use keycode::Part;
 use keycode::parts::clip;
@@ -13,7 +16,9 @@ pub(crate) struct Answer<'a> {
 }
 
 // Two's complement, spelt out: the calls under test cast, and what they do wrong must not be undone here.
-fn pattern(number: i64) -> u64 {
+fn pattern(number: i64) -> u64
+    ensures { result ≡ cast_unsigned w64 number }
+{
     if number < 0 {
         u64::MAX - (-1 - number) as u64
     } else {

@@ -1,4 +1,7 @@
 // Fields and kinds of the words of a request.
+ghost use Rattle.std.specs.Prelude.{◌≡◌};
+ghost use Rattle.std.specs.Int.{w64, cast_signed};
+
 use crate::digits::{number, unhex};
 use crate::lines::Words;
 use keycode::Part;
@@ -29,7 +32,9 @@ pub(crate) struct Kinds {
 }
 
 // Two's complement, spelt out: the calls under test cast, and what they do wrong must not be undone here.
-fn signed(number: u64) -> i64 {
+fn signed(number: u64) -> i64
+    ensures { result ≡ cast_signed w64 number }
+{
     if number < 1 << 63 {
         number as i64
     } else {
