@@ -32,9 +32,11 @@ impl Block {
     // What is left moves to the front, and what comes next is put behind it. None where nothing comes any more. It is read once, so that
     // what is there is answered before more is waited for.
     fn fill<R: Read>(&mut self, input: &mut R) -> Option<()> {
-        self.bytes.copy_within(self.at..self.have, 0);
-        self.have -= self.at;
-        self.at = 0;
+        if 0 < self.at {
+            self.bytes.copy_within(self.at..self.have, 0);
+            self.have -= self.at;
+            self.at = 0;
+        }
         let more = input.read(&mut self.bytes[self.have..]).ok()?;
         self.have += more;
         (more != 0).then_some(())
